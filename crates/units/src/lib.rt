@@ -1,0 +1,8 @@
+// The two measures of a recording. A place and a width are both whole numbers, and a program that takes one for the
+// other reads nonsense without a complaint, so each has a type of its own that no other room can mistake.
+
+// A place in a recording: the number of intervals that stand before it. Even places are passive, odd ones active.
+pub struct Place(pub usize);
+
+// A width: the time that an interval lasts, in microseconds.
+pub struct Micros(pub u32);
