@@ -1,0 +1,4 @@
+pub mod Register
+pub mod Residue
+pub mod Xor
+pub mod Differ
