@@ -1,0 +1,10 @@
+pub mod Bits
+pub mod Line
+pub mod Standing
+pub mod Faults
+pub mod Reading
+pub mod Answers
+pub mod Writing
+pub mod FirstLaws
+pub mod BitLaws
+pub mod StandingLaws
