@@ -1,0 +1,2 @@
+// Reading frames.
+pub mod machine;
