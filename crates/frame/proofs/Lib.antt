@@ -1,1 +1,3 @@
 mod Exits
+mod Searching
+mod Answers

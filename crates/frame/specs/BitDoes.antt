@@ -26,6 +26,7 @@ use Rattle.frame.specs.declared.machine.Stepped.{Stepped}
 use Rattle.frame.specs.declared.machine.Event.the-variants.{Going, Byte}
 use Rattle.frame.specs.Steps.{faulty, pushOf, bitOf}
 use Rattle.frame.specs.Holding.{soFar, holdingBy, holding}
+use Rattle.frame.specs.HoldingLaws.{count-of}
 use Rattle.frame.specs.Does.{Does, faults, goes, stores}
 
 -- ## One bit more of a byte
@@ -64,10 +65,6 @@ push-full : (m : Machine) (b : Bool) → mostBytes ≤ m .count → pushOf m b �
 unfolding pushOf
 push-full m b h = rw (le-leb mostBytes (m .count) h)
 
-count-of : (st : Standing) → holding st .count ≡ length (soFar st)
-unfolding holding
-count-of st = refl
-
 -- A bit at a place inside a part.
 bit-part : (st : Standing) (s : Symbol) (b : Bool) → fault st s ≡ cond (eqb (length (soFar st)) mostBytes) 20 0 → ends s ≡ false
     → length (soFar st) ≤ mostBytes
@@ -75,15 +72,15 @@ bit-part : (st : Standing) (s : Symbol) (b : Bool) → fault st s ≡ cond (eqb 
     → Does st s (pushOf (holding st) b)
 bit-part st s b row e few more = go (eq-or-lt-of-le few)
   where
-    on : fault st s ≡ 0 → Pushed (soFar st) (soFar (after st s)) (holding (after st s)) (pushOf (holding st) b) → Does st s (pushOf (holding st) b)
-    on f (leaves r a) = goes f e r a
-    on f (fills n r a) = stores n f e r a
+    on : fault st s ≡ 0 → length (soFar st) < mostBytes → Pushed (soFar st) (soFar (after st s)) (holding (after st s)) (pushOf (holding st) b) → Does st s (pushOf (holding st) b)
+    on f h (leaves r a) = goes f e r a
+    on f h (fills n r a) = stores n f e r h a
 
     go : (length (soFar st) ≡ mostBytes) ⊎ (length (soFar st) < mostBytes) → Does st s (pushOf (holding st) b)
     go (inl h) =
         faults ThirteenthByte (row ∙ rw (eq-eqb (length (soFar st)) mostBytes h))
         (push-full (holding st) b (omega (arith, count-of st)))
-    go (inr h) = on (row ∙ rw (ne-eqb (length (soFar st)) mostBytes (λ x. omega arith))) (more h)
+    go (inr h) = on (row ∙ rw (ne-eqb (length (soFar st)) mostBytes (λ x. omega arith))) h (more h)
 
 -- ## In each part
 

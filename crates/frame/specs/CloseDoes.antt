@@ -22,6 +22,7 @@ use Rattle.frame.specs.declared.machine.Stepped.{Stepped}
 use Rattle.frame.specs.declared.machine.Event.the-variants.{Going}
 use Rattle.frame.specs.Steps.{faulty, closing, askedOf, eodOf, closeOf}
 use Rattle.frame.specs.Holding.{phaseOf, earlier, soFar, holding}
+use Rattle.frame.specs.HoldingLaws.{parts}
 use Rattle.frame.specs.ResidueLaws.{checks-residue}
 use Rattle.frame.specs.Does.{Does, faults, closes, goes}
 
@@ -51,15 +52,6 @@ unfolding fault
 ifs-rows st = neither (facts st .sofPlace) (rows st 0)
 
 -- ## The machine's tests are those rows
-
--- all bytes are those before the part, and the part's
-parts : (st : Standing) → soFar st ≡ earlier st ++ partBytes st
-unfolding bytes
-parts atSof = refl
-parts (inMain m) = append-nil (bytes m)
-parts (atNormalization m) = refl
-parts (inResponse plain m r) = refl
-parts (inResponse checked m r) = refl
 
 past : (a b : List ℕ) (k : ℕ) → ltb (length (a ++ b)) (length a + k) ≡ ltb (length b) k
 past a b k = go (ltb (length b) k) refl
