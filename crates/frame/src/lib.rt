@@ -50,8 +50,8 @@ fn framed(machine: Machine, opening: usize, closing: usize) -> Reading
     ensures { λ r. ⌜ r ≡ framedOf machine opening closing ⌝ }
 {
     let phase = machine.phase;
-    let count = machine.count as usize;
-    let began = machine.began as usize;
+    let count = machine.count;
+    let began = machine.began;
     match phase {
         Phase::Sof => whole(count, 0, Response::Without, opening, closing),
         Phase::Main => whole(count, 0, Response::Without, opening, closing),
@@ -93,7 +93,7 @@ fn read_open(intervals: &[u32], opening: usize, lent: &mut [u8]) -> Reading
     let mut i = opening + 1;
     while i < intervals.len() {
         let symbol = symbol::class(i % 2 == 1, Micros(intervals[i]));
-        let at = held.count as usize;
+        let at = held.count;
         let stepped = machine::step(held, symbol);
         let event = stepped.event;
         let next = stepped.machine;
@@ -104,7 +104,7 @@ fn read_open(intervals: &[u32], opening: usize, lent: &mut [u8]) -> Reading
                 kept[at] = byte;
             }
             Event::Closed => {
-                let count = held.count as usize;
+                let count = held.count;
                 lay(kept, count, lent);
                 return framed(held, opening, i);
             }
