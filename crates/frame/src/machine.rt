@@ -6,7 +6,7 @@ ghost use Prim.Native.Nat.{_+_, _<_};
 ghost use lib.Dec.{eqb, ltb};
 ghost use Rattle.checkbyte.specs.Register.{residue};
 ghost use Rattle.framing.specs.Bits.{value};
-ghost use Rattle.frame.specs.Steps.{faulty, closing, begun, pushOf, responseBegun, partOf, sofPhase, bitOf, sofOf, askedOf, eodOf, closeOf, meaningOf, stepOf, fresh};
+ghost use Rattle.frame.specs.Steps.{faulty, closing, begun, pushOf, responseBegun, partOf, sofPhase, bitOf, sofOf, asking, askedOf, eodOf, closeOf, meaningOf, stepOf, fresh};
 use framing::Fault;
 use symbol::Symbol;
 
@@ -127,15 +127,15 @@ fn close(machine: Machine) -> Stepped
 fn begin(machine: Machine, phase: Phase) -> Stepped
     ensures { λ r. ⌜ r ≡ begun machine phase ⌝ }
 {
-    let count = machine.count;
+    let so_far = machine.count;
     Stepped {
         event: Event::Going,
         machine: Machine {
             phase,
             partial: NO_BITS,
             register: checkbyte::ALL_ONES,
-            count,
-            began: count,
+            count: so_far,
+            began: so_far,
         },
     }
 }
@@ -193,8 +193,8 @@ fn in_part(phase: Phase) -> bool
 {
     match phase {
         Phase::Sof => false,
-        Phase::Main => true,
         Phase::Normalization => false,
+        Phase::Main => true,
         Phase::Plain => true,
         Phase::Checked => true,
     }
@@ -206,8 +206,8 @@ fn at_sof(phase: Phase) -> bool
 {
     match phase {
         Phase::Sof => true,
-        Phase::Main => false,
         Phase::Normalization => false,
+        Phase::Main => false,
         Phase::Plain => false,
         Phase::Checked => false,
     }
@@ -238,32 +238,24 @@ fn sof(machine: Machine) -> Stepped
     fail(machine, Fault::LateSof)
 }
 
+// What is asked of a part.
+fn ask(fewest: usize, checked: bool) -> Asked
+    ensures { λ r. ⌜ r ≡ asking fewest checked ⌝ }
+{
+    Asked { fewest, checked }
+}
+
 // What is asked of the part that closes. The places of the SOF and of the normalization bit are active, where no EOD or
 // end can stand: nothing is asked there, here and below.
 fn asked_of(phase: Phase) -> Asked
     ensures { λ r. ⌜ r ≡ askedOf phase ⌝ }
 {
     match phase {
-        Phase::Sof => Asked {
-            fewest: 0,
-            checked: false,
-        },
-        Phase::Main => Asked {
-            fewest: FEWEST_MAIN,
-            checked: true,
-        },
-        Phase::Normalization => Asked {
-            fewest: 0,
-            checked: false,
-        },
-        Phase::Plain => Asked {
-            fewest: FEWEST_PLAIN,
-            checked: false,
-        },
-        Phase::Checked => Asked {
-            fewest: FEWEST_CHECKED,
-            checked: true,
-        },
+        Phase::Sof => ask(0, false),
+        Phase::Normalization => ask(0, false),
+        Phase::Main => ask(FEWEST_MAIN, true),
+        Phase::Plain => ask(FEWEST_PLAIN, false),
+        Phase::Checked => ask(FEWEST_CHECKED, true),
     }
 }
 
@@ -294,8 +286,8 @@ fn behind_eod(machine: Machine) -> Stepped
     let phase = machine.phase;
     match phase {
         Phase::Sof => begin(machine, Phase::Main),
-        Phase::Main => begin(machine, Phase::Normalization),
         Phase::Normalization => begin(machine, Phase::Checked),
+        Phase::Main => begin(machine, Phase::Normalization),
         Phase::Plain => fail(machine, Fault::EodAfterResponse),
         Phase::Checked => fail(machine, Fault::EodAfterResponse),
     }
