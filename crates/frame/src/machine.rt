@@ -193,7 +193,7 @@ fn in_part(phase: Phase) -> bool
 {
     match phase {
         Phase::Sof => false,
-        Phase::Normalization => false,
+        Phase::Normalization => false, // its one bit belongs to no byte
         Phase::Main => true,
         Phase::Plain => true,
         Phase::Checked => true,
