@@ -5,3 +5,4 @@ pub mod Contest
 pub mod Calls
 pub mod Promises
 pub mod Histories
+pub mod OrderLaws
