@@ -6,3 +6,4 @@ pub mod Calls
 pub mod Promises
 pub mod Histories
 pub mod OrderLaws
+pub mod LineLaws
