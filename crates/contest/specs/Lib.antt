@@ -7,3 +7,5 @@ pub mod Promises
 pub mod Histories
 pub mod OrderLaws
 pub mod LineLaws
+pub mod First
+pub mod RoundLaws
