@@ -9,3 +9,4 @@ pub mod OrderLaws
 pub mod LineLaws
 pub mod First
 pub mod RoundLaws
+pub mod ContestLaws
