@@ -10,3 +10,5 @@ pub mod LineLaws
 pub mod First
 pub mod RoundLaws
 pub mod ContestLaws
+pub mod Refusals
+pub mod Taken
