@@ -12,3 +12,4 @@ pub mod RoundLaws
 pub mod ContestLaws
 pub mod Refusals
 pub mod Taken
+pub mod RowSettled
