@@ -13,3 +13,4 @@ pub mod ContestLaws
 pub mod Refusals
 pub mod Taken
 pub mod RowSettled
+pub mod RoundSettled
