@@ -10,6 +10,7 @@ pub mod LineLaws
 pub mod First
 pub mod RoundLaws
 pub mod ContestLaws
+pub mod RowLaws
 pub mod Refusals
 pub mod Taken
 pub mod RowSettled
