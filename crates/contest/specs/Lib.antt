@@ -11,7 +11,11 @@ pub mod First
 pub mod RoundLaws
 pub mod ContestLaws
 pub mod RowLaws
+pub mod Difference
+pub mod Places
 pub mod Refusals
 pub mod Taken
+pub mod Fates
+pub mod Winner
 pub mod RowSettled
 pub mod RoundSettled
