@@ -17,5 +17,6 @@ pub mod Refusals
 pub mod Taken
 pub mod Fates
 pub mod Winner
+pub mod LineTime
 pub mod RowSettled
 pub mod RoundSettled
