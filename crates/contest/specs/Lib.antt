@@ -18,5 +18,6 @@ pub mod Taken
 pub mod Fates
 pub mod Winner
 pub mod LineTime
+pub mod Counting
 pub mod RowSettled
 pub mod RoundSettled
