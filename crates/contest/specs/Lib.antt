@@ -19,5 +19,6 @@ pub mod Fates
 pub mod Winner
 pub mod LineTime
 pub mod Counting
+pub mod CallLaws
 pub mod RowSettled
 pub mod RoundSettled
