@@ -20,5 +20,6 @@ pub mod Winner
 pub mod LineTime
 pub mod Counting
 pub mod CallLaws
+pub mod Waiting
 pub mod RowSettled
 pub mod RoundSettled
