@@ -8,3 +8,12 @@ pub mod Writing
 pub mod FirstLaws
 pub mod BitLaws
 pub mod StandingLaws
+pub mod Refusals
+pub mod Meant
+pub mod Rows
+pub mod RowLaws
+pub mod Decided
+pub mod FaultLaws
+pub mod Outcomes
+pub mod ReadSettled
+pub mod WriteSettled
