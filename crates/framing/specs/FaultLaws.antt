@@ -1,6 +1,6 @@
 -- The faults, row by row: reading answers a fault's number exactly when, at the earliest interval that decides the frame,
 -- that fault's row holds and no row that is judged before it does.
-use Prim.Native.Nat.{ℕ, _%_, _<_}
+use Prim.Native.Nat.{ℕ, _%_, _≤_, _<_}
 use mathlib.Core.Path.{_≡_, refl, sym, _∙_}
 use mathlib.Core.Bool.{Bool, true, false}
 use mathlib.Core.List.{List}
@@ -14,11 +14,12 @@ use Rattle.symbol.specs.declared.Symbol.{Symbol}
 use Rattle.symbol.specs.declared.Symbol.the-variants.{Noise, Bit0, Bit1, Eod, Sof, Eof, Ifs, Break, Stuck}
 use Rattle.framing.specs.Line.{symbolAt, is}
 use Rattle.framing.specs.Standing.{stands}
-use Rattle.framing.specs.Faults.{facts, partBytes}
-use Rattle.framing.specs.Reading.{faulty, faultAt, decided}
+use Rattle.framing.specs.Faults.{facts, partBytes, mostBytes}
+use Rattle.framing.specs.Reading.{faulty, faultAt, decided, reading}
 use Rattle.framing.specs.Meant.{is-means}
 use Rattle.framing.specs.Rows.{rows, FirstToHold}
 use Rattle.framing.specs.RowLaws.{fault-is}
+use Rattle.framing.specs.Outcomes.{Opens, opened-reading, OpenedBy, opened-by}
 use Rattle.framing.specs.Decided.{Earliest, FaultyAt, faulty-at, decides-faulty}
 
 -- k is the earliest interval that decides the frame opened at o; there row n holds, and no row that is judged before it.
@@ -110,3 +111,23 @@ few-exactly ws o k = (λ e. there (law .0 e), λ t. law .1 (back t))
             ),
           );
         }
+
+-- ## From the call's own arguments
+
+-- Reading from p, with bytes enough lent: the frame that opens there is at fault at k, by row n.
+pub record ReadsFault (ws : List ℕ) (p lent n k : ℕ) : Type 0 where
+  pub enough : mostBytes ≤ lent
+  pub opening : ℕ
+  pub opens : Opens ws p opening
+  pub at-fault : AtFault ws opening n k
+
+pub reading-fault : (ws : List ℕ) (p lent n k : ℕ) → 0 < n → (reading ws p lent ≡ faulty n k) ↔ ReadsFault ws p lent n k
+reading-fault ws p lent n k h = (there, back)
+  where
+    there : reading ws p lent ≡ faulty n k → ReadsFault ws p lent n k
+    there e =
+        let r : OpenedBy ws p lent (faulty n k) = opened-by ws p lent (faulty n k) refl e in
+        record { enough = r .enough; opening = r .opening; opens = r .opens; at-fault = fault-exactly ws (r .opening) n k h .0 (r .is-decided) }
+
+    back : ReadsFault ws p lent n k → reading ws p lent ≡ faulty n k
+    back f = opened-reading ws p lent (f .opening) (f .enough) (f .opens) ∙ fault-exactly ws (f .opening) n k h .1 (f .at-fault)

@@ -17,3 +17,5 @@ pub mod FaultLaws
 pub mod Outcomes
 pub mod ReadSettled
 pub mod WriteSettled
+pub mod ReadingOn
+pub mod Moved

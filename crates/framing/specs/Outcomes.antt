@@ -8,9 +8,10 @@ use native.Mathlib.Omega.{arith}
 use lib.Dec.{leb, ltb}
 use lib.ListN.{length}
 use borrow.Author.Tests.{ltb-true, ltb-false, leb-true, leb-false, lt-ltb, le-ltb, lt-leb}
+use Rattle.laws.specs.Tests.{never}
 use Rattle.framing.specs.Line.{endAt, Found, nowhere, at, opening}
 use Rattle.framing.specs.Faults.{mostBytes}
-use Rattle.framing.specs.Reading.{Outcome, quiet, refused, decided, readBy, reading}
+use Rattle.framing.specs.Reading.{Outcome, good, quiet, unfinished, faulty, refused, decided, readBy, reading}
 use Rattle.framing.specs.FirstLaws.{IsFirst, first-at, at-first, first-none}
 
 -- The opening of reading from p is at o, and at least one interval follows it.
@@ -64,3 +65,27 @@ module _ (ws : List ℕ) (p lent : ℕ) where
         none-earlier = op .none-before;
       }) in
       rw (le-ltb (length ws) p (omega (arith, op .from, op .followed)), le-ltb lent mostBytes h, found, lt-leb (length ws) (o + 1) (op .followed))
+
+-- the answer is a frame or a fault, from whose next position one reads on
+abbrev pub goesOn : Outcome → Bool
+goesOn (good main response kind opening next) = true
+goesOn (quiet next) = false
+goesOn (unfinished opening) = false
+goesOn (faulty number next) = true
+goesOn (refused number) = false
+
+-- What is known of a call that answers a frame or a fault: where the frame opens, and that it is decided so.
+pub record OpenedBy (ws : List ℕ) (p lent : ℕ) (x : Outcome) : Type 0 where
+  pub enough : mostBytes ≤ lent
+  pub opening : ℕ
+  pub opens : Opens ws p opening
+  pub is-decided : decided ws opening ≡ x
+
+pub opened-by : (ws : List ℕ) (p lent : ℕ) (x : Outcome) → goesOn x ≡ true → reading ws p lent ≡ x → OpenedBy ws p lent x
+opened-by ws p lent x g e = go (reading ws p lent) (comes ws p lent) e
+  where
+    go : (y : Outcome) → Comes ws p lent y → y ≡ x → OpenedBy ws p lent x
+    go y (isPast h) e = never (rw (← e) at g) refl
+    go y (isShort h l) e = never (rw (← e) at g) refl
+    go y (isQuiet h l) e = never (rw (← e) at g) refl
+    go y (isOpened {o} h l op) e = record { enough = l; opening = o; opens = op; is-decided = e }
