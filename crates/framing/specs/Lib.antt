@@ -19,3 +19,10 @@ pub mod ReadSettled
 pub mod WriteSettled
 pub mod ReadingOn
 pub mod Moved
+pub mod ByteLaws
+pub mod Waves
+pub mod WaveLaws
+pub mod Passing
+pub mod Admitted
+pub mod Parts
+pub mod ReadBack
