@@ -26,3 +26,5 @@ pub mod Passing
 pub mod Admitted
 pub mod Parts
 pub mod ReadBack
+pub mod WordLaws
+pub mod WrittenBack

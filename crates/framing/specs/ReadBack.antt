@@ -30,6 +30,7 @@ use Rattle.framing.specs.WaveLaws.{Stand, Carry, stands-behind, stand-ap
 use Rattle.framing.specs.Passing.{Passes, stay, pass, passes-append, Passed, passed}
 use Rattle.framing.specs.Parts.{bits-pass, main-grows, response-grows, Complete, shut-fine, end-fine, sealed-complete, plain-complete}
 use Rattle.framing.specs.Admitted.{Admitted, admitted}
+use Rattle.framing.specs.WordLaws.{bytes-length}
 
 -- ## A message's symbols
 
@@ -105,13 +106,6 @@ module _ (main : List ℕ) (rs : List ℕ) (mb : Bytes main) (rb : Bytes rs) whe
       no-fault = rw stands-last (end-fine (lastStanding main kind rs) (symbolAt ws k) (sym (end-symbol ws k) ∙ e) (frame-complete kind a))
 
 -- ## Waves
-
-symbols-length : (bits : List Bool) → length (bitSymbols bits) ≡ length bits
-symbols-length [] = refl
-symbols-length (b ∷ bits) = ap suc (symbols-length bits)
-
-pub bytes-length : (bs : List ℕ) → length (byteSymbols bs) ≡ 8 * length bs
-bytes-length bs = symbols-length (bitsOf bs) ∙ bits-length bs
 
 response-even : (kind : Response) (rs : List ℕ) → length (responseSymbols kind rs) % 2 ≡ 0
 response-even Without rs = refl
