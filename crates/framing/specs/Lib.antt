@@ -28,3 +28,4 @@ pub mod Parts
 pub mod ReadBack
 pub mod WordLaws
 pub mod WrittenBack
+pub mod WorkedReading
