@@ -6,9 +6,7 @@ use mathlib.Core.Bool.{Bool, true, false}
 use mathlib.Core.List.{List}
 use mathlib.Core.Logic.{_↔_, _⊎_, inl, inr, ⊎-elim}
 use native.Mathlib.Omega.{arith}
-use lib.Dec.{eqb}
 use lib.ListN.{length}
-use borrow.Author.Tests.{eqb-true, eqb-false}
 use Rattle.laws.specs.Tests.{never}
 use Rattle.symbol.specs.declared.Symbol.{Symbol}
 use Rattle.symbol.specs.declared.Symbol.the-variants.{Noise, Bit0, Bit1, Eod, Sof, Eof, Ifs, Break, Stuck}
@@ -16,7 +14,7 @@ use Rattle.framing.specs.Line.{symbolAt, is}
 use Rattle.framing.specs.Standing.{stands}
 use Rattle.framing.specs.Faults.{facts, partBytes, mostBytes}
 use Rattle.framing.specs.Reading.{faulty, faultAt, decided, reading}
-use Rattle.framing.specs.Meant.{is-means}
+use Rattle.framing.specs.Meant.{is-means, stable-equal}
 use Rattle.framing.specs.Rows.{rows, FirstToHold}
 use Rattle.framing.specs.RowLaws.{fault-is}
 use Rattle.framing.specs.Outcomes.{Opens, opened-reading, OpenedBy, opened-by}
@@ -62,13 +60,6 @@ unlike a s x y z (inl e) = other a Eod s x e
 unlike a s x y z (inr (inl e)) = other a Eof s y e
 unlike a s x y z (inr (inr e)) = other a Ifs s z e
 
-decided-equal : (a b : ℕ) → ¬ ¬ (a ≡ b) → a ≡ b
-decided-equal a b h = go (eqb a b) refl
-  where
-    go : (t : Bool) → eqb a b ≡ t → a ≡ b
-    go true e = eqb-true a b e
-    go false e = absurd (h (eqb-false a b e))
-
 -- The answer is 17 exactly when, at the earliest interval that decides, that is so.
 pub few-exactly : (ws : List ℕ) (o k : ℕ) → (decided ws o ≡ faulty 17 k) ↔ TooFew ws o k
 few-exactly ws o k = (λ e. there (law .0 e), λ t. law .1 (back t))
@@ -82,7 +73,7 @@ few-exactly ws o k = (λ e. there (law .0 e), λ t. law .1 (back t))
         record {
           earliest = a .earliest;
           shut = f .1 .0;
-          whole = decided-equal (length (facts (stands ws o k) .part) % 8) 0 (λ h. f .0 (f .1 .0, h));
+          whole = stable-equal (length (facts (stands ws o k) .part) % 8) 0 (λ h. f .0 (f .1 .0, h));
           few = f .1 .1;
         }
 

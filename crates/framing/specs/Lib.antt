@@ -29,3 +29,6 @@ pub mod ReadBack
 pub mod WordLaws
 pub mod WrittenBack
 pub mod WorkedReading
+pub mod Spelled
+pub mod Nominal
+pub mod Again

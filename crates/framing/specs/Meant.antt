@@ -4,7 +4,7 @@ use mathlib.Core.Path.{_≡_, refl, sym, ap, _∙_}
 use mathlib.Core.Bool.{Bool, true, false, cond, not, _&&_, _||_}
 use mathlib.Core.Logic.{_↔_, _⊎_, inl, inr, ⊎-elim}
 use lib.Dec.{eqb, ltb}
-use borrow.Author.Tests.{eqb-true, eq-eqb, ltb-true, lt-ltb}
+use borrow.Author.Tests.{eqb-true, eqb-false, eq-eqb, ltb-true, lt-ltb}
 use Rattle.laws.specs.Tests.{never}
 use Rattle.symbol.specs.declared.Symbol.{Symbol}
 use Rattle.symbol.specs.declared.Symbol.the-variants.{Noise, Bit0, Bit1, Eod, Sof, Eof, Ifs, Break, Stuck}
@@ -52,6 +52,14 @@ equals a b = record { says = eqb a b; Holds = a ≡ b; means = (eqb-true a b, eq
 
 abbrev pub below : ℕ → ℕ → Test
 below a b = record { says = ltb a b; Holds = a < b; means = (ltb-true a b, lt-ltb a b) }
+
+-- Two numbers that are not unequal are equal.
+pub stable-equal : (a b : ℕ) → ¬ ¬ (a ≡ b) → a ≡ b
+stable-equal a b h = go (eqb a b) refl
+  where
+    go : (t : Bool) → eqb a b ≡ t → a ≡ b
+    go true e = eqb-true a b e
+    go false e = absurd (h (eqb-false a b e))
 
 -- the symbol that a mark stands for
 marked : ℕ → Symbol

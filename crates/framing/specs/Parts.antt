@@ -20,6 +20,8 @@ use Rattle.framing.specs.Line.{is, shuts}
 use Rattle.framing.specs.Standing.{Kind, plain, checked, Standing, inMain, inResponse}
 use Rattle.framing.specs.Faults.{facts, partBytes, mostBytes, checksOut, fault}
 use Rattle.framing.specs.StandingLaws.{after}
+use Rattle.framing.specs.Meant.{shutting, stable-equal}
+use Rattle.framing.specs.RowLaws.{no-fault-is}
 use Rattle.framing.specs.ByteLaws.{bytes-few, bytes-back, bits-length, with-length, with-checks, with-bytes}
 use Rattle.framing.specs.Waves.{bitSymbols}
 use Rattle.framing.specs.Passing.{Passes, stay, pass}
@@ -121,6 +123,23 @@ end-fine st s e c = shut-fine st s (by s e .0) (by s e .1) c
     by Ifs e = (refl, refl)
     by Break e = never e refl
     by Stuck e = never e refl
+
+passes-checks : (h c : Bool) → ¬ ((h ≡ true) × (¬ (c ≡ true))) → (h && not c) ≡ false
+passes-checks true true n = refl
+passes-checks true false n = absurd (n (refl, λ e. never e refl))
+passes-checks false c n = refl
+
+-- The other way: a part behind which an EOD or end is at no fault is complete.
+pub shut-complete : (st : Standing) (s : Symbol) → shuts s ≡ true → fault st s ≡ 0 → Complete st
+shut-complete st s e f =
+    let shut = shutting s .means .0 e in
+    let rest = no-fault-is st s .0 f .1 .1 .1 .1 .1 in
+    let enough : ¬ (length (partBytes st) < facts st .fewest) = λ l. rest .1 .0 (shut, l) in
+    record {
+      whole-bytes = stable-equal (length (facts st .part) % 8) 0 (λ n. rest .0 (shut, n));
+      enough = omega arith;
+      checks = passes-checks (facts st .hasCheck) (checksOut (partBytes st)) (λ n. rest .1 .1 .0 (shut, n));
+    }
 
 -- Bytes with their check byte are complete, in any part that has one.
 pub sealed-complete : (bs : List ℕ) (st : Standing) → Bytes bs → 1 ≤ length bs → facts st .part ≡ bitsOf (withCheck bs) → facts st .fewest ≤ 2 → Complete st

@@ -53,9 +53,29 @@ first-is n (r ∷ rs) h a = go (eqb n (r .number)) (r .when .says) refl refl (fi
     go false true e s ih = (λ f. absurd (eqb-false n (r .number) e (sym f)), λ f. absurd (f .0 (r .when .means .0 s)))
     go false false e s ih = (λ f. (λ x. never (r .when .means .1 x) s, ih .0 f), λ f. ih .1 (f .1))
 
+-- no row holds
+abbrev pub NoneHolds : List Row → Type 0
+NoneHolds [] = Unit {0}
+NoneHolds (r ∷ rs) = (¬ (r .when .Holds)) × NoneHolds rs
+
+none-is : (rs : List Row) → without 0 rs ≡ true → (firstRow rs ≡ 0) ↔ NoneHolds rs
+none-is [] w = (λ e. tt, λ h. refl)
+none-is (r ∷ rs) w =
+    let parts = both (not (eqb 0 (r .number))) (without 0 rs) w in
+    go (r .when .says) refl (not-true (eqb 0 (r .number)) (parts .0)) (none-is rs (parts .1))
+  where
+    go : (t : Bool) → r .when .says ≡ t → eqb 0 (r .number) ≡ false → (firstRow rs ≡ 0) ↔ NoneHolds rs
+        → (cond t (r .number) (firstRow rs) ≡ 0) ↔ ((¬ (r .when .Holds)) × NoneHolds rs)
+    go true s d ih = (λ e. absurd (eqb-false 0 (r .number) d (sym e)), λ h. absurd (h .0 (r .when .means .0 s)))
+    go false s d ih = (λ e. (λ x. never (r .when .means .1 x) s, ih .0 e), λ h. ih .1 (h .1))
+
 -- The fault of an interval is n exactly when row n holds of it and no row that is judged before does.
 pub fault-is : (n : ℕ) (st : Standing) (s : Symbol) → 0 < n → (fault st s ≡ n) ↔ FirstToHold n (rows st s)
 fault-is n st s h = rw (fault-first st s) (first-is n (rows st s) h refl)
+
+-- An interval is at no fault exactly when no row holds of it.
+pub no-fault-is : (st : Standing) (s : Symbol) → (fault st s ≡ 0) ↔ NoneHolds (rows st s)
+no-fault-is st s = rw (fault-first st s) (none-is (rows st s) refl)
 
 upTo : ℕ → List Row → Bool
 upTo m [] = true
