@@ -1,8 +1,8 @@
 -- Written again: the parts of a good frame, without their checks, written at the nominal clock, are the recording's own
 -- intervals from the opening to the closing end, each at its symbol's nominal width.
-use Prim.Native.Nat.{ℕ, zero, suc, _+_, _-_, _*_, _%_, _≤_, _<_}
+use Prim.Native.Nat.{ℕ, zero, suc, _+_, _-_, _≤_, _<_}
 use mathlib.Core.Path.{_≡_, refl, sym, ap, _∙_}
-use mathlib.Core.Bool.{Bool, true, false, cond, not, _&&_, _||_}
+use mathlib.Core.Bool.{Bool, true, false, not, _||_}
 use mathlib.Core.List.{List, [], _∷_, _++_, append-nil}
 use native.Mathlib.Omega.{arith}
 use native.Mathlib.Nat.{add-zero}
@@ -11,9 +11,9 @@ use lib.ListN.{length, getD, take, length-take}
 use borrow.Author.Tests.{not-true, not-false, le-ltb}
 use Rattle.laws.specs.Tests.{never, both}
 use Rattle.symbol.specs.declared.Symbol.{Symbol}
-use Rattle.symbol.specs.declared.Symbol.the-variants.{Bit0, Bit1, Eod, Sof}
+use Rattle.symbol.specs.declared.Symbol.the-variants.{Eod, Sof}
 use Rattle.symbol.specs.Classes.{endOf, ends}
-use Rattle.symbol.specs.Clocks.{goodOf, nominalClock}
+use Rattle.symbol.specs.Clocks.{nominalClock}
 use Rattle.symbol.specs.Sending.{endWidth, sentOf}
 use Rattle.symbol.specs.SendingLaws.{nominal-good}
 use Rattle.checkbyte.specs.Register.{withCheck}
@@ -22,14 +22,14 @@ use Rattle.framing.specs.declared.Response.{Response}
 use Rattle.framing.specs.declared.Response.the-variants.{Without, Plain, Checked}
 use Rattle.framing.specs.Bits.{bytes, bitsOf}
 use Rattle.framing.specs.Line.{activeAt, symbolAt, endAt, is, shuts}
-use Rattle.framing.specs.Standing.{Kind, plain, checked, Standing, atSof, inMain, atNormalization, inResponse, stands}
-use Rattle.framing.specs.Faults.{facts, mainBytes, responseBytes, mostBytes, checksOut, fault}
-use Rattle.framing.specs.Reading.{good, faultAt, decided, reading}
+use Rattle.framing.specs.Standing.{plain, checked, Standing, atSof, inMain, atNormalization, inResponse, stands}
+use Rattle.framing.specs.Faults.{facts, mainBytes, responseBytes, mostBytes, checksOut}
+use Rattle.framing.specs.Reading.{good, faultAt, reading}
 use Rattle.framing.specs.Writing.{mostWords, responseSent, frameWords, badMessage, words, writing}
 use Rattle.framing.specs.Decided.{Earliest, GoodAt, good-at}
 use Rattle.framing.specs.Outcomes.{OpenedBy, opened-by}
 use Rattle.framing.specs.ByteLaws.{bits-back, check-back, withoutCheck, bytes-made}
-use Rattle.framing.specs.Waves.{bitSymbols, byteSymbols, responseSymbols, frameSymbols}
+use Rattle.framing.specs.Waves.{bitSymbols, frameSymbols}
 use Rattle.framing.specs.WaveLaws.{Carry, level-turns, end-symbol}
 use Rattle.framing.specs.WordLaws.{widthOf, sentWidths, frame-sent}
 use Rattle.framing.specs.Parts.{Complete, shut-complete}

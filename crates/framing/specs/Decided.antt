@@ -1,9 +1,10 @@
 -- "The earliest interval with a fault decides": what is known of the interval that an answer stands on, and which answer an
 -- interval gives.
-use Prim.Native.Nat.{ℕ, zero, suc, _+_, _-_, _≤_, _<_}
-use mathlib.Core.Path.{_≡_, refl, sym, ap, _∙_}
+use Prim.Native.Nat.{ℕ, zero, suc, _+_, _-_, _<_}
+use mathlib.Core.Path.{_≡_, refl}
 use mathlib.Core.Bool.{Bool, true, false, cond, not, _||_}
 use mathlib.Core.List.{List}
+use mathlib.Core.Logic.{_↔_}
 use native.Mathlib.Omega.{arith}
 use lib.Dec.{eqb}
 use lib.ListN.{length}
@@ -136,6 +137,16 @@ faulty-at ws o n k e = go (decided ws o) (decision ws o) e
         let its : faultAt ws o j ≡ n = cc in
         let same : j ≡ k = cc in
         record { earliest = rw (← same) c; at-fault = rw (← same) its; some-fault = rw (← its) h }
+
+-- A frame comes to fault n at k exactly when k is the earliest interval that decides, and its fault is n.
+pub faulty-exactly : (ws : List ℕ) (o n k : ℕ) → 0 < n → (decided ws o ≡ faulty n k) ↔ (Earliest ws o k × (faultAt ws o k ≡ n))
+faulty-exactly ws o n k h = (there, back)
+  where
+    there : decided ws o ≡ faulty n k → Earliest ws o k × (faultAt ws o k ≡ n)
+    there e = let f : FaultyAt ws o n k = faulty-at ws o n k e in (f .earliest, f .at-fault)
+
+    back : Earliest ws o k × (faultAt ws o k ≡ n) → decided ws o ≡ faulty n k
+    back a = rw (← (a .1)) (decides-faulty ws o k (a .0) (rw (a .1) h))
 
 -- What is known of a good frame: its closing end is the earliest interval that decides, and its values stand before it.
 pub record GoodAt (ws : List ℕ) (o : ℕ) (main response : List ℕ) (kind : Response) (opened k : ℕ) : Type 0 where

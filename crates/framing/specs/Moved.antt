@@ -1,16 +1,14 @@
 -- What stands before the opening never matters: two recordings that agree from their openings on are read alike, the places
 -- moved.
-use Prim.Native.Nat.{ℕ, zero, suc, _+_, _-_, _%_, _≤_, _<_}
+use Prim.Native.Nat.{ℕ, zero, suc, _+_, _-_, _%_, _≤_}
 use mathlib.Core.Path.{_≡_, refl, sym, ap, _∙_}
-use mathlib.Core.Bool.{Bool, true, false, cond, not, _||_}
+use mathlib.Core.Bool.{Bool, true, false, cond}
 use mathlib.Core.List.{List}
 use native.Mathlib.Omega.{arith}
-use native.Mathlib.Nat.{add-zero}
 use lib.Dec.{eqb, leb, ltb}
 use lib.ListN.{length, getD, drop, length-drop}
 use lib.Seq.{getD-drop}
 use borrow.Author.Tests.{le-ltb, lt-leb, le-leb, leb-true, leb-false}
-use Rattle.symbol.specs.Classes.{classOf, endOf}
 use Rattle.framing.specs.Line.{activeAt, symbolAt, endAt, Found, nowhere, at, first, firstIn, opening}
 use Rattle.framing.specs.Standing.{stands}
 use Rattle.framing.specs.StandingLaws.{stands-sof, stands-next}

@@ -1,18 +1,17 @@
 -- What a call that reads comes to, case by case: the two refusals, quiet, or what the opened frame is decided to be.
-use Prim.Native.Nat.{ℕ, zero, suc, _+_, _-_, _≤_, _<_}
-use mathlib.Core.Path.{_≡_, refl, sym, ap, _∙_}
+use Prim.Native.Nat.{ℕ, _+_, _-_, _≤_, _<_}
+use mathlib.Core.Path.{_≡_, refl}
 use mathlib.Core.Bool.{Bool, true, false, cond}
 use mathlib.Core.List.{List}
-use mathlib.Core.Logic.{_⊎_, inl, inr}
 use native.Mathlib.Omega.{arith}
 use lib.Dec.{leb, ltb}
 use lib.ListN.{length}
-use borrow.Author.Tests.{ltb-true, ltb-false, leb-true, leb-false, lt-ltb, le-ltb, lt-leb}
+use borrow.Author.Tests.{ltb-true, ltb-false, leb-false, le-ltb, lt-leb}
 use Rattle.laws.specs.Tests.{never}
 use Rattle.framing.specs.Line.{endAt, Found, nowhere, at, opening}
 use Rattle.framing.specs.Faults.{mostBytes}
 use Rattle.framing.specs.Reading.{Outcome, good, quiet, unfinished, faulty, refused, decided, readBy, reading}
-use Rattle.framing.specs.FirstLaws.{IsFirst, first-at, at-first, first-none}
+use Rattle.framing.specs.FirstLaws.{IsFirst, first-at, at-first}
 
 -- The opening of reading from p is at o, and at least one interval follows it.
 pub record Opens (ws : List ℕ) (p o : ℕ) : Type 0 where

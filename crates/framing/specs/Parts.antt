@@ -1,7 +1,7 @@
 -- The parts of a frame: bits go in without a fault as long as there is room, and an EOD or end closes a complete part.
-use Prim.Native.Nat.{ℕ, _+_, _-_, _*_, _%_, _≤_, _<_}
-use mathlib.Core.Path.{_≡_, refl, sym, ap, _∙_}
-use mathlib.Core.Bool.{Bool, true, false, cond, not, _&&_, _||_}
+use Prim.Native.Nat.{ℕ, _+_, _-_, _%_, _≤_, _<_}
+use mathlib.Core.Path.{_≡_, refl}
+use mathlib.Core.Bool.{Bool, true, false, cond, not, _&&_}
 use mathlib.Core.List.{List, [], _∷_, _++_, append-nil}
 use native.Mathlib.Omega.{arith}
 use lib.Dec.{eqb, ltb}
@@ -18,7 +18,7 @@ use Rattle.checkbyte.specs.Differ.{Bytes}
 use Rattle.framing.specs.Bits.{bytes, bitsOf}
 use Rattle.framing.specs.Line.{is, shuts}
 use Rattle.framing.specs.Standing.{Kind, plain, checked, Standing, inMain, inResponse}
-use Rattle.framing.specs.Faults.{facts, partBytes, mostBytes, checksOut, fault}
+use Rattle.framing.specs.Faults.{facts, partBytes, mostBytes, checksOut, whole, fault}
 use Rattle.framing.specs.StandingLaws.{after}
 use Rattle.framing.specs.Meant.{shutting, stable-equal}
 use Rattle.framing.specs.RowLaws.{no-fault-is}
@@ -84,31 +84,38 @@ pub record Complete (st : Standing) : Type 0 where
   pub enough : facts st .fewest ≤ length (partBytes st)
   pub checks : (facts st .hasCheck && not (checksOut (partBytes st))) ≡ false
 
-and-false : (b : Bool) → (b && false) ≡ false
+pub and-false : (b : Bool) → (b && false) ≡ false
 and-false true = refl
 and-false false = refl
 
+-- The fault of an EOD or end: rows 16, 17, 18 and 19 alone are judged of it.
+pub shut-fault : (st : Standing) (s : Symbol) → shuts s ≡ true
+    → fault st s
+    ≡ cond (not (whole (facts st .part))) 16
+    (cond (ltb (length (partBytes st)) (facts st .fewest)) 17
+    (cond (facts st .hasCheck && not (checksOut (partBytes st))) 18
+    (cond (is Eod s && facts st .responding) 19 0)))
+unfolding fault
+shut-fault st Noise e = never e refl
+shut-fault st Bit0 e = never e refl
+shut-fault st Bit1 e = never e refl
+shut-fault st Eod e = rw (and-false (facts st .sofPlace), and-false (not (facts st .sofPlace)))
+shut-fault st Sof e = never e refl
+shut-fault st Eof e = rw (and-false (facts st .sofPlace), and-false (not (facts st .sofPlace)))
+shut-fault st Ifs e = rw (and-false (facts st .sofPlace), and-false (not (facts st .sofPlace)))
+shut-fault st Break e = never e refl
+shut-fault st Stuck e = never e refl
+
 -- An EOD or end behind a complete part is at no fault, but for an EOD behind a response.
 pub shut-fine : (st : Standing) (s : Symbol) → shuts s ≡ true → (is Eod s && facts st .responding) ≡ false → Complete st → fault st s ≡ 0
-unfolding fault
-shut-fine st s e r c = by s e r
-  where
-    split : eqb (length (facts st .part) % 8) 0 ≡ true
-    split = eq-eqb (length (facts st .part) % 8) 0 (c .whole-bytes)
-
-    few : ltb (length (partBytes st)) (facts st .fewest) ≡ false
-    few = le-ltb (length (partBytes st)) (facts st .fewest) (c .enough)
-
-    by : (s : Symbol) → shuts s ≡ true → (is Eod s && facts st .responding) ≡ false → fault st s ≡ 0
-    by Noise e r = never e refl
-    by Bit0 e r = never e refl
-    by Bit1 e r = never e refl
-    by Eod e r = rw (and-false (facts st .sofPlace), and-false (not (facts st .sofPlace)), split, few, c .checks, r)
-    by Sof e r = never e refl
-    by Eof e r = rw (and-false (facts st .sofPlace), and-false (not (facts st .sofPlace)), split, few, c .checks)
-    by Ifs e r = rw (and-false (facts st .sofPlace), and-false (not (facts st .sofPlace)), split, few, c .checks)
-    by Break e r = never e refl
-    by Stuck e r = never e refl
+shut-fine st s e r c =
+    rw (
+      shut-fault st s e,
+      eq-eqb (length (facts st .part) % 8) 0 (c .whole-bytes),
+      le-ltb (length (partBytes st)) (facts st .fewest) (c .enough),
+      c .checks,
+      r,
+    )
 
 pub end-fine : (st : Standing) (s : Symbol) → ends s ≡ true → Complete st → fault st s ≡ 0
 end-fine st s e c = shut-fine st s (by s e .0) (by s e .1) c

@@ -1,36 +1,34 @@
 -- Read-back: a frame that stands on the line, with anything before it and anything behind it, is read as the message that it
 -- carries, whatever its widths are inside the receiving windows.
-use Prim.Native.Nat.{ℕ, zero, suc, _+_, _-_, _*_, _%_, _≤_, _<_}
+use Prim.Native.Nat.{ℕ, _+_, _-_, _%_, _≤_, _<_}
 use mathlib.Core.Path.{_≡_, refl, sym, ap, _∙_}
-use mathlib.Core.Bool.{Bool, true, false, cond, not, _&&_, _||_}
-use mathlib.Core.List.{List, [], _∷_, _++_, append-assoc}
+use mathlib.Core.Bool.{true, false}
+use mathlib.Core.List.{List, [], _∷_, _++_}
 use native.Mathlib.Omega.{arith}
-use lib.Dec.{eqb}
 use lib.ListN.{length, getD, length-append}
 use borrow.Author.Tests.{eq-eqb, ne-eqb, le-leb}
-use Rattle.symbol.specs.declared.Symbol.{Symbol}
-use Rattle.symbol.specs.declared.Symbol.the-variants.{Bit0, Bit1, Eod, Sof}
-use Rattle.symbol.specs.Classes.{endOf, ends}
+use Rattle.symbol.specs.declared.Symbol.the-variants.{Eod}
+use Rattle.symbol.specs.Classes.{endOf}
 use Rattle.checkbyte.specs.Register.{withCheck}
 use Rattle.checkbyte.specs.Differ.{Bytes}
 use Rattle.framing.specs.declared.Response.{Response}
 use Rattle.framing.specs.declared.Response.the-variants.{Without, Plain, Checked}
 use Rattle.framing.specs.Bits.{bytes, bitsOf}
-use Rattle.framing.specs.Line.{activeAt, symbolAt, endAt}
-use Rattle.framing.specs.Standing.{Kind, plain, checked, Standing, atSof, inMain, atNormalization, inResponse, stands}
+use Rattle.framing.specs.Line.{symbolAt, endAt}
+use Rattle.framing.specs.Standing.{plain, checked, Standing, atSof, inMain, inResponse, stands}
 use Rattle.framing.specs.Faults.{facts, mainBytes, responseBytes, mostBytes, fault}
-use Rattle.framing.specs.Reading.{Outcome, good, decides, decided, reading}
-use Rattle.framing.specs.Writing.{responseSent, badMessage}
+use Rattle.framing.specs.Reading.{good, reading}
+use Rattle.framing.specs.Writing.{mostWords, responseSent, badMessage}
 use Rattle.framing.specs.StandingLaws.{stands-sof}
 use Rattle.framing.specs.Decided.{Earliest, undecided, decides-good}
 use Rattle.framing.specs.Outcomes.{Opens, opened-reading}
-use Rattle.framing.specs.ByteLaws.{bytes-back, bits-length, with-length, with-bytes}
-use Rattle.framing.specs.Waves.{Wave, bitSymbols, byteSymbols, responseSymbols, frameSymbols, FrameWave}
+use Rattle.framing.specs.ByteLaws.{bytes-back, bits-length, with-bytes}
+use Rattle.framing.specs.Waves.{byteSymbols, responseSymbols, frameSymbols, FrameWave}
 use Rattle.framing.specs.WaveLaws.{Stand, Carry, stands-behind, stand-append, wave-carries, wave-length, end-symbol}
 use Rattle.framing.specs.Passing.{Passes, stay, pass, passes-append, Passed, passed}
 use Rattle.framing.specs.Parts.{bits-pass, main-grows, response-grows, Complete, shut-fine, end-fine, sealed-complete, plain-complete}
 use Rattle.framing.specs.Admitted.{Admitted, admitted}
-use Rattle.framing.specs.WordLaws.{bytes-length}
+use Rattle.framing.specs.WordLaws.{bytes-length, symbols-few}
 
 -- ## A message's symbols
 
@@ -121,6 +119,13 @@ long-end : (ws : List ℕ) (k : ℕ) → k % 2 ≡ 0 → 240 ≤ getD ws k 0 →
 unfolding endAt endOf
 long-end ws k h w = rw (ne-eqb (k % 2) 1 (λ e. omega arith), le-leb 240 (getD ws k 0) w)
 
+-- A frame's wave has as many words as the message has symbols, and the two ends: at most 101.
+pub wave-words : {main : List ℕ} {kind : Response} {rs ws : List ℕ} → FrameWave main kind rs ws → length ws ≡ length (frameSymbols main kind rs) + 2
+wave-words f = ap length (f .words-are) ∙ omega (arith, length-append (f .inner) (f .closing ∷ []), wave-length (f .carries))
+
+pub wave-few : {main : List ℕ} {kind : Response} {rs ws : List ℕ} → FrameWave main kind rs ws → badMessage main kind rs ≡ false → length ws ≤ mostWords
+wave-few {main} {kind} {rs} f h = omega (arith, wave-words f, symbols-few main kind rs h)
+
 -- The same wherever the words stand in a recording.
 reads-standing : (line ws main : List ℕ) (kind : Response) (rs : List ℕ) (o lent : ℕ) → FrameWave main kind rs ws → Stand line o ws
     → o + length ws ≤ length line → badMessage main kind rs ≡ false → Bytes main → Bytes rs → o % 2 ≡ 0 → mostBytes ≤ lent
@@ -128,12 +133,6 @@ reads-standing : (line ws main : List ℕ) (kind : Response) (rs : List ℕ) (o 
 reads-standing line ws main kind rs o lent f st fits adm mb rb even enough =
     reads-symbols main rs mb rb kind line o o (o + length ws - 1) lent adm enough opens carries place end inside
   where
-    count : length ws ≡ length (f .inner) + 2
-    count = ap length (f .words-are) ∙ omega (arith, length-append (f .inner) (f .closing ∷ []))
-
-    symbols : length (f .inner) ≡ length (frameSymbols main kind rs)
-    symbols = wave-length (f .carries)
-
     words : Stand line o (f .opening ∷ (f .inner ++ (f .closing ∷ [])))
     words = rw (f .words-are) at st
 
@@ -141,18 +140,18 @@ reads-standing line ws main kind rs o lent f st fits adm mb rb even enough =
     inner = stand-append line (o + 1) (f .inner) (f .closing ∷ []) (words .1)
 
     place : o + 1 + length (frameSymbols main kind rs) ≡ o + length ws - 1
-    place = omega (arith, count, symbols)
+    place = omega (arith, wave-words f)
 
     carries : Carry line (o + 1) (frameSymbols main kind rs)
     carries = wave-carries line (o + 1) (f .carries) (eq-eqb ((o + 1) % 2) 1 (omega arith)) (inner .0)
 
     end : endAt line (o + length ws - 1) ≡ true
     end =
-        let here : o + 1 + length (f .inner) ≡ o + length ws - 1 = omega (arith, count) in
-        long-end line (o + length ws - 1) (omega (arith, count, symbols, frame-odd main kind rs)) (rw (← here, inner .1 .0) (f .closes))
+        let here : o + 1 + length (f .inner) ≡ o + length ws - 1 = omega (arith, wave-words f, wave-length (f .carries)) in
+        long-end line (o + length ws - 1) (omega (arith, wave-words f, frame-odd main kind rs)) (rw (← here, inner .1 .0) (f .closes))
 
     inside : o + length ws - 1 < length line
-    inside = omega (arith, count)
+    inside = omega (arith, wave-words f)
 
     opens : Opens line o o
     opens =
@@ -160,7 +159,7 @@ reads-standing line ws main kind rs o lent f st fits adm mb rb even enough =
           from = omega arith;
           end = long-end line o even (rw (words .0) (f .opens));
           none-before = λ j x y. absurd (omega arith);
-          followed = omega (arith, count);
+          followed = omega (arith, wave-words f);
         }
 
 -- READ-BACK OF A WAVE. Any words that are a frame of an admitted message at widths inside the receiving windows, with anything

@@ -1,7 +1,7 @@
 -- Reading on: each answer that is a frame or a fault has a next position further on, so that reading on from next positions
 -- ends; and the end that closes a frame opens the next one.
 use Prim.Native.Nat.{ℕ, zero, suc, _+_, _-_, _≤_, _<_}
-use mathlib.Core.Path.{_≡_, refl, sym, ap, _∙_}
+use mathlib.Core.Path.{_≡_, refl, ap}
 use mathlib.Core.Bool.{Bool, true, false, cond}
 use mathlib.Core.List.{List, [], _∷_}
 use native.Mathlib.Omega.{arith}
@@ -9,9 +9,9 @@ use lib.ListN.{length}
 use Rattle.laws.specs.Tests.{never}
 use Rattle.framing.specs.declared.Response.{Response}
 use Rattle.framing.specs.Line.{endAt, at, opening}
-use Rattle.framing.specs.Reading.{Outcome, good, quiet, unfinished, faulty, refused, decided, reading}
+use Rattle.framing.specs.Reading.{Outcome, good, reading}
 use Rattle.framing.specs.Answers.{tells}
-use Rattle.framing.specs.FirstLaws.{IsFirst, at-first}
+use Rattle.framing.specs.FirstLaws.{at-first}
 use Rattle.framing.specs.Decided.{Decision, isUnfinished, isGood, isFaulty, decision, GoodAt, good-at}
 use Rattle.framing.specs.Outcomes.{goesOn, OpenedBy, opened-by}
 

@@ -2,13 +2,13 @@
 -- standing spells, and what it holds is sound.
 use Prim.Native.Nat.{ℕ, zero, suc, _+_, _-_, _≤_, _<_}
 use mathlib.Core.Path.{_≡_, refl, sym, ap, _∙_}
-use mathlib.Core.Bool.{Bool, true, false, cond, not, _&&_}
+use mathlib.Core.Bool.{Bool, true, false, not}
 use mathlib.Core.List.{List, [], _∷_, _++_, append-assoc}
 use native.Mathlib.Omega.{arith}
 use native.Mathlib.Nat.{add-zero}
 use lib.Dec.{eqb}
 use lib.ListN.{length, getD, length-append}
-use borrow.Author.Tests.{eqb-true, eqb-false}
+use borrow.Author.Tests.{eqb-false}
 use Rattle.laws.specs.Tests.{never}
 use Rattle.symbol.specs.declared.Symbol.{Symbol}
 use Rattle.symbol.specs.declared.Symbol.the-variants.{Noise, Bit0, Bit1, Eod, Sof, Eof, Ifs, Break, Stuck}
@@ -17,7 +17,7 @@ use Rattle.symbol.specs.ClassLaws.{class-in}
 use Rattle.symbol.specs.SendingLaws.{bitSymbol}
 use Rattle.framing.specs.Bits.{bytes}
 use Rattle.framing.specs.Line.{activeAt, symbolAt, endAt, is}
-use Rattle.framing.specs.Standing.{Kind, plain, checked, kindBy, Standing, atSof, inMain, atNormalization, inResponse, stands}
+use Rattle.framing.specs.Standing.{Kind, plain, checked, Standing, atSof, inMain, atNormalization, inResponse, stands}
 use Rattle.framing.specs.Faults.{facts, mainBytes, responseBytes, mostBytes, fault}
 use Rattle.framing.specs.Reading.{faultAt}
 use Rattle.framing.specs.BitLaws.{OneMore, isLeft, isWhole, one-more}

@@ -1,16 +1,15 @@
 -- What a wave puts on the line is found there: the places of a recording carry the symbols that are meant.
-use Prim.Native.Nat.{ℕ, zero, suc, _+_, _-_, _%_, _≤_, _<_}
-use mathlib.Core.Path.{_≡_, refl, sym, ap, _∙_}
+use Prim.Native.Nat.{ℕ, suc, _+_, _%_}
+use mathlib.Core.Path.{_≡_, refl, ap, _∙_}
 use mathlib.Core.Bool.{Bool, true, false, not}
-use mathlib.Core.List.{List, [], _∷_, _++_, append-nil, append-assoc}
+use mathlib.Core.List.{List, [], _∷_, _++_}
 use native.Mathlib.Omega.{arith}
 use native.Mathlib.Nat.{add-zero}
-use lib.Dec.{eqb}
 use lib.ListN.{length, getD, length-append}
 use lib.Seq.{getD-append-seam, append-snoc}
 use borrow.Author.Tests.{eqb-true, eqb-false, eq-eqb, ne-eqb}
 use Rattle.symbol.specs.declared.Symbol.{Symbol}
-use Rattle.symbol.specs.Classes.{classOf, endOf, ends}
+use Rattle.symbol.specs.Classes.{ends}
 use Rattle.symbol.specs.ClassLaws.{class-only, end-is}
 use Rattle.framing.specs.Line.{activeAt, symbolAt, endAt}
 use Rattle.framing.specs.Waves.{Wave, still, pulse}

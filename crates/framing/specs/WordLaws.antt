@@ -1,6 +1,6 @@
 -- Symbols as a clock sends them, and the writer's words seen so: two ends of 300, and between them the symbols of the message.
 use Prim.Native.Nat.{ℕ, suc, _+_, _*_, _≤_}
-use mathlib.Core.Path.{_≡_, refl, sym, ap, ap₂, _∙_}
+use mathlib.Core.Path.{_≡_, refl, sym, ap, _∙_}
 use mathlib.Core.Bool.{Bool, true, false, not}
 use mathlib.Core.List.{List, [], _∷_, _++_, append-assoc}
 use native.Mathlib.Omega.{arith}
@@ -15,7 +15,6 @@ use Rattle.checkbyte.specs.Register.{withCheck}
 use Rattle.framing.specs.declared.Response.{Response}
 use Rattle.framing.specs.declared.Response.the-variants.{Without, Plain, Checked}
 use Rattle.framing.specs.Bits.{bitsOf}
-use Rattle.framing.specs.Faults.{mostBytes}
 use Rattle.framing.specs.Writing.{mostWords, bitWidths, byteWidths, responseSent, responseWidths, frameWords, badMessage}
 use Rattle.framing.specs.Waves.{bitSymbols, byteSymbols, responseSymbols, frameSymbols}
 use Rattle.framing.specs.WaveLaws.{turned}

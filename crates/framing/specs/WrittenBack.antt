@@ -1,6 +1,6 @@
 -- What is written is read back: for every admitted message and every good clock.
 use Prim.Native.Nat.{ℕ, _+_, _-_, _%_, _≤_}
-use mathlib.Core.Path.{_≡_, refl, sym, ap, _∙_}
+use mathlib.Core.Path.{_≡_, refl}
 use mathlib.Core.Bool.{Bool, true, false, not}
 use mathlib.Core.List.{List, [], _∷_, _++_}
 use native.Mathlib.Omega.{arith}
@@ -22,7 +22,7 @@ use Rattle.framing.specs.Bits.{bitsOf}
 use Rattle.framing.specs.Faults.{mostBytes}
 use Rattle.framing.specs.Reading.{good, reading}
 use Rattle.framing.specs.Writing.{bitWidths, responseSent, responseWidths, frameWords, badMessage}
-use Rattle.framing.specs.Waves.{Wave, still, pulse, bitSymbols, byteSymbols, responseSymbols, frameSymbols, FrameWave}
+use Rattle.framing.specs.Waves.{Wave, still, pulse, bitSymbols, byteSymbols, responseSymbols, FrameWave}
 use Rattle.framing.specs.WaveLaws.{turned, wave-append}
 use Rattle.framing.specs.WordLaws.{level-back, innerWords, frame-inner}
 use Rattle.framing.specs.ReadBack.{reads-wave}
