@@ -20,6 +20,7 @@ pub mod Winner
 pub mod LineTime
 pub mod Counting
 pub mod CallLaws
+pub mod Readable
 pub mod Waiting
 pub mod RowSettled
 pub mod RoundSettled

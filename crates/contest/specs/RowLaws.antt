@@ -6,15 +6,16 @@ use mathlib.Core.Bool.{Bool, true, false, cond, not, _&&_}
 use mathlib.Core.List.{List, [], _∷_, _++_, map, nil≢cons}
 use native.Mathlib.Omega.{arith}
 use lib.Dec.{leb}
-use lib.ListN.{length, take, length-append, length-take}
+use lib.ListN.{length, take, length-take}
 use borrow.Author.Tests.{leb-true}
 use Rattle.laws.specs.Tests.{both}
 use Rattle.symbol.specs.declared.Clock.{Clock}
 use Rattle.symbol.specs.Clocks.{goodOf}
 use Rattle.symbol.specs.Sending.{SendingWindow, bitWidth}
 use Rattle.symbol.specs.SendingLaws.{Good, good, bitSymbol}
-use Rattle.checkbyte.specs.Register.{checkOf, withCheck}
-use Rattle.framing.specs.Bits.{bitsOf, bitsOfByte}
+use Rattle.checkbyte.specs.Register.{withCheck}
+use Rattle.framing.specs.Bits.{bitsOf}
+use Rattle.framing.specs.ByteLaws.{bits-length, with-length}
 use Rattle.contest.specs.declared.Station.{Station}
 use Rattle.contest.specs.declared.Fared.{Fared}
 use Rattle.contest.specs.declared.Fared.the-variants.{Idle}
@@ -29,15 +30,9 @@ use Rattle.contest.specs.ContestLaws.{Keeps, KeepAll, goesOut, all-fair,
 
 -- ## A message's bits
 
--- Bytes have eight bits each.
-pub bits-length : (m : List ℕ) → length (bitsOf m) ≡ 8 * length m
-unfolding bitsOf
-bits-length [] = refl
-bits-length (b ∷ m) = let k = bits-length m in omega arith
-
 -- A message of at most 11 bytes has at most 96 bits with its check byte.
 pub sent-short : (m : List ℕ) → length m ≤ mostStored → length (bitsSent m) ≤ mostBits
-sent-short m h = omega (arith, bits-length (withCheck m), length-append m (checkOf m ∷ []))
+sent-short m h = omega (arith, bits-length (withCheck m), with-length m)
 
 -- Every message has bits to send, if only those of its check byte.
 pub sent-some : (m : List ℕ) → bitsSent m ≢ []
