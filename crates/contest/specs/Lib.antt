@@ -21,6 +21,8 @@ pub mod LineTime
 pub mod Counting
 pub mod CallLaws
 pub mod Readable
+pub mod ThroughReads
 pub mod Waiting
+pub mod WaitingEnds
 pub mod RowSettled
 pub mod RoundSettled
