@@ -24,5 +24,6 @@ pub mod Readable
 pub mod ThroughReads
 pub mod Waiting
 pub mod WaitingEnds
+pub mod Worked
 pub mod RowSettled
 pub mod RoundSettled
