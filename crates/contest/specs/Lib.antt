@@ -24,6 +24,9 @@ pub mod Readable
 pub mod ThroughReads
 pub mod Waiting
 pub mod WaitingEnds
+pub mod Seen
+pub mod SeenCounts
+pub mod SeenEnds
 pub mod Worked
 pub mod RowSettled
 pub mod RoundSettled
