@@ -24,6 +24,7 @@ pub mod Readable
 pub mod ThroughReads
 pub mod Waiting
 pub mod WaitingEnds
+pub mod RoundShows
 pub mod Seen
 pub mod SeenCounts
 pub mod SeenEnds

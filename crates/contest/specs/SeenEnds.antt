@@ -2,9 +2,10 @@
 -- is seen to go out in time, by the answers alone.
 use Prim.Native.Nat.{ℕ, _+_, _≤_}
 use mathlib.Core.Path.{_≡_, refl, sym, ap, ap₂, subst, subst₂, _∙_}
-use mathlib.Core.Bool.{true}
+use mathlib.Core.Bool.{true, false, and-false}
 use mathlib.Core.List.{List, [], _∷_, _++_, nil≢cons}
 use native.Mathlib.Omega.{arith}
+use lib.Dec.{eqb}
 use lib.ListN.{length, take, getD}
 use borrow.Author.Tests.{eq-eqb}
 use Rattle.checkbyte.specs.Register.{withCheck}
@@ -16,7 +17,7 @@ use Rattle.contest.specs.declared.Station.{Station}
 use Rattle.contest.specs.declared.Fared.the-variants.{Idle, Through}
 use Rattle.contest.specs.declared.Called.{Called}
 use Rattle.contest.specs.declared.RoundAnswer.{RoundAnswer}
-use Rattle.contest.specs.Stations.{bitsSent}
+use Rattle.contest.specs.Stations.{Bits, bitsSent}
 use Rattle.contest.specs.Contest.{sumOf, roundOf, verdictOf}
 use Rattle.contest.specs.Calls.{Call, load, withdraw, setClock, round, numberOf, taken, after, lentAfter}
 use Rattle.contest.specs.Promises.{toldNumber, LoadPromise, RoundPromise, RoundSaid, said, played, roundSays}
@@ -24,7 +25,7 @@ use Rattle.contest.specs.Histories.{afterAll, aheadIn, roundsIn, loadsAh
 use Rattle.contest.specs.Winner.{verdict-at}
 use Rattle.contest.specs.LineTime.{words-first}
 use Rattle.contest.specs.WaitingEnds.{Sent, GoesOutInTime, waiting-ends}
-use Rattle.contest.specs.Seen.{Event, loads, withdraws, setsClock, plays, callOf, callsOf, Keeps, Happens, nothing, then, roundsSeen, loadsSeen, NoWithdrawalSeen, NoTrafficSeen}
+use Rattle.contest.specs.Seen.{Event, loads, withdraws, setsClock, plays, callOf, callsOf, Keeps, Happens, nothing, then, roundsSeen, loadSeen, loadsSeen, withdrawalSeen, NoWithdrawalSeen, trafficSeen, NoTrafficSeen}
 use Rattle.contest.specs.SeenCounts.{happens-row, rounds-counted, loads-counted, none-withdrawn, none-disturbs}
 
 -- ## The round in which it goes out, among the events
@@ -133,6 +134,32 @@ pub record SeenOut (s : ℕ) (x : List ℕ) (row : List Station) (events : List 
   -- "with no loading or withdrawal in exactly round A + 1"
   pub exactly : NoTrafficSeen before → roundsSeen before + 1 ≡ aheadIn row x + 1
 
+traffic-withdraws : (s : ℕ) (e : Event) → trafficSeen e ≡ false → withdrawalSeen s e ≡ false
+traffic-withdraws s (loads i m a) u = refl
+traffic-withdraws s (withdraws i a) u = rw (u, and-false (eqb s i))
+traffic-withdraws s (setsClock i c a) u = refl
+traffic-withdraws s (plays entry exit a) u = refl
+
+traffic-loads : (m : Bits) (e : Event) → trafficSeen e ≡ false → loadSeen m e ≡ 0
+traffic-loads m (loads i x a) u = rw u
+traffic-loads m (withdraws i a) u = refl
+traffic-loads m (setsClock i c a) u = refl
+traffic-loads m (plays entry exit a) u = refl
+
+-- without traffic nothing is withdrawn, L is 0, and so it is up to any event
+quiet-kept : (s : ℕ) (events : List Event) → NoTrafficSeen events → NoWithdrawalSeen s events
+quiet-kept s [] u = tt
+quiet-kept s (e ∷ events) u = (traffic-withdraws s e (u .0), quiet-kept s events (u .1))
+
+quiet-loads : (x : List ℕ) (events : List Event) → NoTrafficSeen events → loadsSeen x events ≡ 0
+unfolding loadsSeen
+quiet-loads x [] u = refl
+quiet-loads x (e ∷ events) u = omega (arith, traffic-loads (bitsSent x) e (u .0), quiet-loads x events (u .1))
+
+quiet-before : (before later : List Event) → NoTrafficSeen (before ++ later) → NoTrafficSeen before
+quiet-before [] later u = tt
+quiet-before (e ∷ before) later u = (u .0, quiet-before before later (u .1))
+
 module _ (s : ℕ) (x : List ℕ) (start : List Station) (b : Bytes x) {row : List Station} (load-kept : LoadPromise s x start row Called.Done) where
   loading-taken : taken (load s x) start ≡ true
   unfolding taken
@@ -178,3 +205,11 @@ module _ (s : ℕ) (x : List ℕ) (start : List Station) (b : Bytes x) {row : Li
       let h' : Happens (after (load s x) start) events exit = subst (λ (r : List Station). Happens r events exit) row-is h in
       seen events h
       (waiting-ends s x start b loading-taken (callsOf events) (none-withdrawn s h' n) (omega (arith, loads-counted x h', rounds-counted h')))
+
+  -- EXACTLY ROUND A + 1, AS IT IS SEEN. Where no loading or withdrawal was accepted, it is that round.
+  pub seen-exactly : {exit : List Station} (events : List Event) → Happens row events exit → NoTrafficSeen events
+      → aheadIn start x + 1 ≤ roundsSeen events → (g : SeenOut s x start events) × (roundsSeen (g .before) + 1 ≡ aheadIn start x + 1)
+  seen-exactly events h u l = go (seen-out events h (quiet-kept s events u) (omega (arith, quiet-loads x events u)))
+    where
+      go : SeenOut s x start events → (g : SeenOut s x start events) × (roundsSeen (g .before) + 1 ≡ aheadIn start x + 1)
+      go g = (g, g .exactly (quiet-before (g .before) (plays (g .lent) (g .lentExit) (g .answer) ∷ g .later) (rw (g .parts) at u)))
