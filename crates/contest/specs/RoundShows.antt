@@ -3,10 +3,8 @@
 use Prim.Native.Nat.{ℕ, zero, suc, _+_, _≤_}
 use mathlib.Core.Path.{_≡_, refl, sym, ap, _∙_}
 use mathlib.Core.Logic.{_↔_}
-use mathlib.Core.Bool.{Bool, true, false, cond}
+use mathlib.Core.Bool.{true, false}
 use mathlib.Core.List.{List, [], _∷_, _++_}
-use native.Mathlib.Omega.{arith}
-use lib.Dec.{eqb}
 use lib.ListN.{length, take, getD}
 use borrow.Author.Tests.{eq-eqb}
 use Rattle.symbol.specs.Clocks.{Start}
@@ -17,8 +15,8 @@ use Rattle.contest.specs.declared.Fared.the-variants.{Idle, Through, Los
 use Rattle.contest.specs.declared.Verdict.{Verdict}
 use Rattle.contest.specs.declared.RoundAnswer.{RoundAnswer}
 use Rattle.contest.specs.Stations.{mostStations, empty, waitingAt, blank}
-use Rattle.contest.specs.Contest.{sumOf, roundOf, verdictOf, emptied, afterFare, afterFares}
-use Rattle.contest.specs.Calls.{round, numberOf, taken, done, after, lentAfter}
+use Rattle.contest.specs.Contest.{sumOf, roundOf, verdictOf, afterFare, afterFares}
+use Rattle.contest.specs.Calls.{round, numberOf, taken, done, after}
 use Rattle.contest.specs.Promises.{toldNumber, RoundSaid, said, played, roundSays, RoundPromise}
 use Rattle.contest.specs.RoundLaws.{Carried}
 use Rattle.contest.specs.RowLaws.{winnerOf}
@@ -26,7 +24,7 @@ use Rattle.contest.specs.Places.{stationAt}
 use Rattle.contest.specs.Difference.{FirstDifference}
 use Rattle.contest.specs.Fates.{fareAt}
 use Rattle.contest.specs.Winner.{Wins, wins, loses, verdict-at, verdicts-32}
-use Rattle.contest.specs.LineTime.{OnTheLine, on-the-line, words-first}
+use Rattle.contest.specs.LineTime.{on-the-line, words-first}
 use Rattle.contest.specs.RoundSettled.{says-number}
 
 -- how an answer says that a place fared
@@ -41,7 +39,8 @@ pub record Shown (entry exit : List Station) (lentExit : List ℕ) (a : RoundAns
   pub places : length (a .verdicts) ≡ mostStations
   pub through : (i : ℕ) → (toldFare a i ≡ Through) ↔ (waitingAt (stationAt entry i) ≡ winnerOf entry)
   pub idle : (i : ℕ) → (toldFare a i ≡ Idle) ↔ (empty (stationAt entry i) ≡ true)
-  pub lost : (i k : ℕ) → (toldFare a i ≡ Lost k) ↔ ((empty (stationAt entry i) ≡ false) × FirstDifference (winnerOf entry) (waitingAt (stationAt entry i)) k)
+  pub lost : (i k : ℕ)
+      → (toldFare a i ≡ Lost k) ↔ ((empty (stationAt entry i) ≡ false) × FirstDifference (winnerOf entry) (waitingAt (stationAt entry i)) k)
   -- every station afterwards: "Holders that got through become empty, length 0; every other field stays."
   pub stations : (i : ℕ) → stationAt exit i ≡ afterFare (toldFare a i) (stationAt entry i)
   -- the words written stand first and are the line of the round
@@ -94,7 +93,8 @@ round-shows {entry} {exit} {lent} {lentExit} {a} p z =
     }
   where
     t : taken (round lent) entry ≡ true
-    t = unfold taken in eq-eqb (numberOf (round lent) entry) 0 (sym (says-number entry lent) ∙ sym (ap (λ (r : RoundSaid). r .number) (p .says-it)) ∙ z)
+    t =
+        unfold taken in eq-eqb (numberOf (round lent) entry) 0 (sym (says-number entry lent) ∙ sym (ap (λ (r : RoundSaid). r .number) (p .says-it)) ∙ z)
 
     row : exit ≡ afterFares (roundOf entry .fares) entry
     row = p .leaves-it ∙ rw t

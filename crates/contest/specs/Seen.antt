@@ -2,7 +2,7 @@
 -- by the answers alone.
 use Prim.Native.Nat.{ℕ, _+_}
 use mathlib.Core.Path.{_≡_}
-use mathlib.Core.Bool.{Bool, true, false, cond, _&&_}
+use mathlib.Core.Bool.{Bool, false, cond, _&&_}
 use mathlib.Core.List.{List, [], _∷_}
 use lib.Dec.{eqb}
 use Rattle.symbol.specs.declared.Clock.{Clock}
@@ -41,7 +41,8 @@ Keeps (plays lentEntry lentExit a) entry exit = RoundPromise entry exit lentEntr
 -- "a row changed only by these calls, each lent the whole of it": each call finds the row as the one before it left it.
 pub data Happens : List Station → List Event → List Station → Type 0 where
   nothing : {row : List Station} → Happens row [] row
-  then : {entry middle exit : List Station} {e : Event} {events : List Event} → Keeps e entry middle → Happens middle events exit → Happens entry (e ∷ events) exit
+  then : {entry middle exit : List Station} {e : Event} {events : List Event} → Keeps e entry middle → Happens middle events exit
+      → Happens entry (e ∷ events) exit
 
 -- the number that was answered; 0 where the call was not turned away
 abbrev pub answered : Event → ℕ

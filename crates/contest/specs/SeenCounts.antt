@@ -1,8 +1,8 @@
 -- In a history whose calls keep their promises, the rows are those of the definitions, and the answers tell what was taken.
-use Prim.Native.Nat.{ℕ, _+_}
+use Prim.Native.Nat.{ℕ}
 use mathlib.Core.Path.{_≡_, refl, ap, _∙_}
 use mathlib.Core.Bool.{Bool, true, false, cond, _&&_}
-use mathlib.Core.List.{List, [], _∷_}
+use mathlib.Core.List.{List}
 use native.Mathlib.Omega.{arith}
 use lib.Dec.{eqb}
 use Rattle.contest.specs.declared.Station.{Station}
@@ -50,7 +50,8 @@ round-counts (withdraws i a) row t = neither (taken (withdraw i) row)
 round-counts (setsClock i c a) row t = neither (taken (setClock i c) row)
 round-counts (plays lentEntry lentExit a) row t = rw t
 
-load-counts : (m : Bits) (e : Event) (row : List Station) → accepted e ≡ taken (callOf e) row → loadSeen m e ≡ counted (callOf e) row (asLoadAhead m (callOf e))
+load-counts : (m : Bits) (e : Event) (row : List Station) → accepted e ≡ taken (callOf e) row
+    → loadSeen m e ≡ counted (callOf e) row (asLoadAhead m (callOf e))
 load-counts m (loads i x a) row t = rw t (both-ways (taken (load i x) row) (ahead (bitsSent x) m))
   where
     both-ways : (a b : Bool) → cond {A = ℕ} (a && b) 1 0 ≡ cond a (cond b 1 0) 0
@@ -60,17 +61,22 @@ load-counts m (withdraws i a) row t = neither (taken (withdraw i) row)
 load-counts m (setsClock i c a) row t = neither (taken (setClock i c) row)
 load-counts m (plays lentEntry lentExit a) row t = neither (taken (round lentEntry) row)
 
-pub rounds-counted : {entry exit : List Station} {events : List Event} → Happens entry events exit → roundsSeen events ≡ roundsIn (callsOf events) entry
+pub rounds-counted : {entry exit : List Station} {events : List Event} → Happens entry events exit
+    → roundsSeen events ≡ roundsIn (callsOf events) entry
 unfolding roundsSeen roundsIn
 rounds-counted nothing = refl
-rounds-counted (then {entry} {middle} {e = e} k h) = rw (← row-after e entry middle k) (omega (arith, rounds-counted h, round-counts e entry (accepted-taken e entry middle k)))
+rounds-counted (then {entry} {middle} {e = e} k h) =
+    rw (← row-after e entry middle k) (omega (arith, rounds-counted h, round-counts e entry (accepted-taken e entry middle k)))
 
-pub loads-counted : (x : List ℕ) {entry exit : List Station} {events : List Event} → Happens entry events exit → loadsSeen x events ≡ loadsAhead (bitsSent x) (callsOf events) entry
+pub loads-counted : (x : List ℕ) {entry exit : List Station} {events : List Event} → Happens entry events exit
+    → loadsSeen x events ≡ loadsAhead (bitsSent x) (callsOf events) entry
 unfolding loadsSeen loadsAhead
 loads-counted x nothing = refl
-loads-counted x (then {entry} {middle} {e = e} k h) = rw (← row-after e entry middle k) (omega (arith, loads-counted x h, load-counts (bitsSent x) e entry (accepted-taken e entry middle k)))
+loads-counted x (then {entry} {middle} {e = e} k h) =
+    rw (← row-after e entry middle k) (omega (arith, loads-counted x h, load-counts (bitsSent x) e entry (accepted-taken e entry middle k)))
 
-withdrawal-tells : (s : ℕ) (e : Event) (row : List Station) → accepted e ≡ taken (callOf e) row → withdrawalSeen s e ≡ false → takesBack s (callOf e) row ≡ false
+withdrawal-tells : (s : ℕ) (e : Event) (row : List Station) → accepted e ≡ taken (callOf e) row → withdrawalSeen s e ≡ false
+    → takesBack s (callOf e) row ≡ false
 withdrawal-tells s (loads i m a) row t n = refl
 withdrawal-tells s (withdraws i a) row t n = rw (← t) n
 withdrawal-tells s (setsClock i c a) row t n = refl
@@ -82,12 +88,14 @@ traffic-tells (withdraws i a) row t n = rw (← t) n
 traffic-tells (setsClock i c a) row t n = refl
 traffic-tells (plays lentEntry lentExit a) row t n = refl
 
-pub none-withdrawn : (s : ℕ) {entry exit : List Station} {events : List Event} → Happens entry events exit → NoWithdrawalSeen s events → NotWithdrawn s (callsOf events) entry
+pub none-withdrawn : (s : ℕ) {entry exit : List Station} {events : List Event} → Happens entry events exit → NoWithdrawalSeen s events
+    → NotWithdrawn s (callsOf events) entry
 none-withdrawn s nothing n = tt
 none-withdrawn s (then {entry} {middle} {e = e} k h) n =
     (withdrawal-tells s e entry (accepted-taken e entry middle k) (n .0), rw (← row-after e entry middle k) (none-withdrawn s h (n .1)))
 
-pub none-disturbs : {entry exit : List Station} {events : List Event} → Happens entry events exit → NoTrafficSeen events → Undisturbed (callsOf events) entry
+pub none-disturbs : {entry exit : List Station} {events : List Event} → Happens entry events exit → NoTrafficSeen events
+    → Undisturbed (callsOf events) entry
 none-disturbs nothing n = tt
 none-disturbs (then {entry} {middle} {e = e} k h) n =
     (traffic-tells e entry (accepted-taken e entry middle k) (n .0), rw (← row-after e entry middle k) (none-disturbs h (n .1)))

@@ -19,7 +19,7 @@ use Rattle.contest.specs.declared.Called.{Called}
 use Rattle.contest.specs.declared.RoundAnswer.{RoundAnswer}
 use Rattle.contest.specs.Stations.{Bits, bitsSent}
 use Rattle.contest.specs.Contest.{sumOf, roundOf, verdictOf}
-use Rattle.contest.specs.Calls.{Call, load, withdraw, setClock, round, numberOf, taken, after, lentAfter}
+use Rattle.contest.specs.Calls.{Call, load, round, numberOf, taken, after}
 use Rattle.contest.specs.Promises.{toldNumber, LoadPromise, RoundPromise, RoundSaid, said, played, roundSays}
 use Rattle.contest.specs.Histories.{afterAll, aheadIn, roundsIn, loadsAhead, Undisturbed}
 use Rattle.contest.specs.Winner.{verdict-at}
@@ -76,14 +76,16 @@ record Around (entry : List Station) (early : List Event) (e : Event) : Type 0 w
   until : Happens entry early middle
   keeps : Keeps e middle next
 
-around : (early : List Event) (e : Event) (late : List Event) (entry exit : List Station) → Happens entry (early ++ (e ∷ late)) exit → Around entry early e
+around : (early : List Event) (e : Event) (late : List Event) (entry exit : List Station) → Happens entry (early ++ (e ∷ late)) exit
+    → Around entry early e
 around [] e late entry exit h = go h
   where
     go : Happens entry (e ∷ late) exit → Around entry [] e
     go (then {middle = middle} k h) = record { middle = entry; next = middle; until = nothing; keeps = k }
 around (x ∷ early) e late entry exit h = go h (λ middle. around early e late middle exit)
   where
-    go : Happens entry (x ∷ (early ++ (e ∷ late))) exit → ((middle : List Station) → Happens middle (early ++ (e ∷ late)) exit → Around middle early e) → Around entry (x ∷ early) e
+    go : Happens entry (x ∷ (early ++ (e ∷ late))) exit
+        → ((middle : List Station) → Happens middle (early ++ (e ∷ late)) exit → Around middle early e) → Around entry (x ∷ early) e
     go (then {middle = middle} k h) ih =
         let r = ih middle h in
         record { middle = r .middle; next = r .next; until = then k (r .until); keeps = r .keeps }
@@ -171,7 +173,8 @@ module _ (s : ℕ) (x : List ℕ) (start : List Station) (b : Bytes x) {row : Li
       row-is : row ≡ after (load s x) start
       row-is = load-kept .leaves-it
 
-      told : (f : Played (g .out .lent) (g .out .before) events) → Around row (f .early) (plays (g .out .lent) (f .lentExit) (f .answer)) → SeenOut s x start events
+      told : (f : Played (g .out .lent) (g .out .before) events) → Around row (f .early) (plays (g .out .lent) (f .lentExit) (f .answer))
+          → SeenOut s x start events
       told f r =
           let middle-is : r .middle ≡ afterAll (g .out .before) (after (load s x) start) = happens-row (r .until) ∙ ap₂ afterAll (f .calls) row-is in
           let rounds : roundsSeen (f .early) ≡ roundsIn (g .out .before) (after (load s x) start) = rounds-counted (r .until) ∙ ap₂ roundsIn (f .calls) row-is in
@@ -189,11 +192,13 @@ module _ (s : ℕ) (x : List ℕ) (start : List Station) (b : Bytes x) {row : Li
                 (subst (λ (l : List Station). Sent s x (g .out .lent) l) (sym middle-is) (g .sent))
                 (r .keeps);
             latest = omega (arith, g .latest);
-            exactly = λ u. omega (arith, g .exactly (subst₂ (λ (cs : List Call) (l : List Station). Undisturbed cs l) (f .calls) row-is (none-disturbs (r .until) u)));
+            exactly =
+                λ u. omega (arith, g .exactly (subst₂ (λ (cs : List Call) (l : List Station). Undisturbed cs l) (f .calls) row-is (none-disturbs (r .until) u)));
           }
 
       go : Played (g .out .lent) (g .out .before) events → SeenOut s x start events
-      go f = told f (around (f .early) (plays (g .out .lent) (f .lentExit) (f .answer)) (f .late) row exit (subst (λ (es : List Event). Happens row es exit) (f .parts) h))
+      go f =
+          told f (around (f .early) (plays (g .out .lent) (f .lentExit) (f .answer)) (f .late) row exit (subst (λ (es : List Event). Happens row es exit) (f .parts) h))
 
   -- WAITING ENDS, AS IT IS SEEN. The loading was answered with Done. Whatever calls follow, and whatever they answer, so long as
   -- each keeps its promise: once 1 + A + L of the rounds have been played, and no withdrawal from the place was accepted, one of

@@ -1,14 +1,14 @@
 -- Whoever gets through is read: for each place that a round lets through, the reader finds that place's own message.
 use Prim.Native.Nat.{ℕ, zero, suc, _+_, _≤_, min}
 use mathlib.Core.Path.{_≡_, refl, sym, _∙_}
-use mathlib.Core.Bool.{Bool, true, false, _&&_}
+use mathlib.Core.Bool.{true, false}
 use mathlib.Core.List.{List, [], _∷_}
 use native.Mathlib.Omega.{arith}
 use lib.Dec.{leb}
 use lib.ListN.{length, take, length-take}
 use borrow.Author.Tests.{leb-true}
 use Rattle.laws.specs.Tests.{both}
-use Rattle.symbol.specs.Clocks.{goodOf, nominalClock}
+use Rattle.symbol.specs.Clocks.{goodOf}
 use Rattle.checkbyte.specs.Register.{withCheck}
 use Rattle.checkbyte.specs.Differ.{Bytes}
 use Rattle.framing.specs.declared.Response.the-variants.{Without}
@@ -16,7 +16,7 @@ use Rattle.framing.specs.Faults.{mostBytes}
 use Rattle.framing.specs.Reading.{good, reading}
 use Rattle.contest.specs.declared.Station.{Station}
 use Rattle.contest.specs.declared.Fared.the-variants.{Through}
-use Rattle.contest.specs.Stations.{mostStored, bitsSent, stored, empty, waitingAt, sound, blank}
+use Rattle.contest.specs.Stations.{mostStored, bitsSent, stored, empty, waitingAt, sound}
 use Rattle.contest.specs.Calls.{round, taken, allSound, lentAfter}
 use Rattle.contest.specs.RowLaws.{winnerOf}
 use Rattle.contest.specs.Places.{stationAt, holder-waits, some-holder}
@@ -43,7 +43,8 @@ sound-at (s ∷ row) (suc i) h = sound-at row i (both (sound s) (allSound row) h
 
 -- THROUGH IS READ. In a round that is not turned away, the message of each place that gets through is what the reader finds in
 -- the lent words from position 0: its bytes and its check byte, no response.
-pub through-reads : (lent : List ℕ) (row : List Station) → taken (round lent) row ≡ true → (i : ℕ) → fareAt row i ≡ Through → InMemory (stationAt row i)
+pub through-reads : (lent : List ℕ) (row : List Station) → taken (round lent) row ≡ true → (i : ℕ) → fareAt row i ≡ Through
+    → InMemory (stationAt row i)
     → (bytesLent : ℕ) → mostBytes ≤ bytesLent
     → reading (lentAfter row lent) 0 bytesLent ≡ good (withCheck (stored (stationAt row i))) [] Without 0 (2 + length (bitsSent (stored (stationAt row i))))
 through-reads lent row t i f mem n h =
@@ -65,7 +66,8 @@ through-reads lent row t i f mem n h =
     some = positive ((stationAt row i) .len) full
 
     few : (stationAt row i) .len ≤ mostStored
-    few = leb-true ((stationAt row i) .len) mostStored (both (leb ((stationAt row i) .len) mostStored) (goodOf ((stationAt row i) .clock)) (sound-at row i (round-taken lent row t .passed .sound)) .0)
+    few =
+        leb-true ((stationAt row i) .len) mostStored (both (leb ((stationAt row i) .len) mostStored) (goodOf ((stationAt row i) .clock)) (sound-at row i (round-taken lent row t .passed .sound)) .0)
 
     size : length (stored (stationAt row i)) ≡ min ((stationAt row i) .len) (length ((stationAt row i) .bytes))
     size = length-take ((stationAt row i) .len) ((stationAt row i) .bytes)
