@@ -47,11 +47,17 @@ module _ (s : ℕ) (m : Bits) (some : m ≢ []) (row : List Station) (h : WaitsA
   step-away : (c : Call) → taken c row ≡ false → Step s m c row
   step-away c e = stays (rw (away-same c row e) h) (rw (away-same c row e, e) (omega arith)) (λ d. rw (away-same c row e, e) (omega arith))
 
+  -- a loading goes to an empty place, which is another one
+  elsewhere : (i : ℕ) (x : List ℕ) → taken (load i x) row ≡ true → s ≢ i
+  elsewhere i x t q =
+      let free : getD (waiting row) i [] ≡ [] = waiting-at row i ∙ empty-none (getD row i blank) (load-taken i x row t .free) in
+      some (sym h ∙ ap (λ (j : ℕ). getD (waiting row) j []) q ∙ free)
+
   step-load : (i : ℕ) (x : List ℕ) → taken (load i x) row ≡ true → Step s m (load i x) row
   step-load i x t =
       let w = load-waiting row i x t in
       stays
-      (rw w (getD-set-other (waiting row) i s (bitsSent x) [] (λ q. some (sym h ∙ ap (λ (j : ℕ). getD (waiting row) j []) q ∙ waiting-at row i ∙ empty-none (getD row i blank) (load-taken i x row t .free))) ∙ h))
+      (rw w (getD-set-other (waiting row) i s (bitsSent x) [] (elsewhere i x t) ∙ h))
       (rw (w, t) (omega (arith, set-count m (waiting row) i (bitsSent x))))
       (λ d. never t d)
 

@@ -11,6 +11,7 @@ use Rattle.laws.specs.Tests.{never}
 use Rattle.contest.specs.declared.Station.{Station}
 use Rattle.contest.specs.declared.Fared.{Fared}
 use Rattle.contest.specs.declared.Fared.the-variants.{Idle, Through, Lost}
+use Rattle.contest.specs.declared.Verdict.{Verdict}
 use Rattle.contest.specs.Stations.{mostStations, Bits, empty, waitingAt}
 use Rattle.contest.specs.Order.{Ahead}
 use Rattle.contest.specs.OrderLaws.{ahead-is, ahead-differs}
@@ -122,4 +123,10 @@ verdicts-32 lent row t =
     let r = (round-taken lent row t) .passed in
     let fs = roundOf row .fares in
     let n : length fs ≡ length row = ap length (row-fares row (r .sound)) ∙ length-map row (faresAgainst (winnerOf row)) in
-    omega (arith, length-append (map verdictOf fs) (replicate (mostStations - length fs) (verdictOf Idle)), length-map fs verdictOf, length-replicate (mostStations - length fs) (verdictOf Idle), r .few)
+    let pad : List Verdict = replicate (mostStations - length fs) (verdictOf Idle) in
+    omega (
+      arith,
+      length-append (map verdictOf fs) pad,
+      length-map fs verdictOf,
+      length-replicate (mostStations - length fs) (verdictOf Idle),
+    )
