@@ -1,5 +1,5 @@
--- Histories of calls on a row, and what demand 3 counts in them. "Demand 3 speaks of a row changed only by these calls, each
--- lent the whole of it, and counts rounds from the loading."
+-- Histories of calls on a row, and what demand 3 counts in them: of "a row changed only by these calls", rounds are counted
+-- "from the loading".
 use Prim.Native.Nat.{ℕ, _+_}
 use mathlib.Core.Path.{_≡_}
 use mathlib.Core.Bool.{Bool, false, cond, not, _&&_, _||_}

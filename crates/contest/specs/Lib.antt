@@ -16,6 +16,7 @@ pub mod Places
 pub mod Refusals
 pub mod Taken
 pub mod Fates
+pub mod RowShows
 pub mod Winner
 pub mod LineTime
 pub mod Counting

@@ -37,13 +37,15 @@ widthsOf ps = map (λ (p : Pulse). p .width) ps
 
 -- ## What the line does
 
--- The shortest of widths. There is none where nobody asks; the 0 stands for it and is never on the line.
+-- The shortest of widths: somebody asks for it and nobody asks for less (`shortest-asked`, `shortest-least`). Where nobody
+-- asks there is none; the 0 stands for it and is never on the line.
 unfoldable pub shortest : List ℕ → ℕ
 shortest [] = 0
 shortest (w ∷ []) = w
 shortest (w ∷ v ∷ ws) = min w (shortest (v ∷ ws))
 
--- The longest of widths. There is none where nobody asks; the 0 stands for it and is never on the line.
+-- The longest of widths: somebody asks for it and nobody asks for more (`longest-asked`, `longest-most`). Where nobody asks
+-- there is none; the 0 stands for it and is never on the line.
 unfoldable pub longest : List ℕ → ℕ
 longest [] = 0
 longest (w ∷ ws) = max w (longest ws)
@@ -89,8 +91,8 @@ abbrev pub mostBits : ℕ
 mostBits = 96
 
 -- The bits from bit k on. "The round is over when every remaining station has sent its check byte", which is when nobody
--- asks. (The first number only bounds how many bits are told, as a recursion must have it. `plays-out` in RoundLaws.antt
--- shows that a round of sound stations is over before it is used up.)
+-- asks. The first number only bounds how many bits are told, as a recursion must have it: `row-finishes` shows that with 96
+-- every round of sound stations is over.
 unfoldable pub play : ℕ → Bool → ℕ → List Seat → Course
 play zero active k seats = over seats
 play (suc n) active k seats =

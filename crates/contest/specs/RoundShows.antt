@@ -25,6 +25,7 @@ use Rattle.contest.specs.Difference.{FirstDifference}
 use Rattle.contest.specs.Fates.{fareAt}
 use Rattle.contest.specs.Winner.{Wins, wins, loses, verdict-at, verdicts-32}
 use Rattle.contest.specs.LineTime.{on-the-line, words-first}
+use Rattle.contest.specs.RowShows.{same-length}
 use Rattle.contest.specs.RoundSettled.{says-number}
 
 -- how an answer says that a place fared
@@ -43,6 +44,7 @@ pub record Shown (entry exit : List Station) (lentExit : List ℕ) (a : RoundAns
       → (toldFare a i ≡ Lost k) ↔ ((empty (stationAt entry i) ≡ false) × FirstDifference (winnerOf entry) (waitingAt (stationAt entry i)) k)
   -- every station afterwards: "Holders that got through become empty, length 0; every other field stays."
   pub stations : (i : ℕ) → stationAt exit i ≡ afterFare (toldFare a i) (stationAt entry i)
+  pub size : length exit ≡ length entry
   -- the words written stand first and are the line of the round
   pub sof : ℕ
   pub widths : List ℕ
@@ -81,13 +83,14 @@ round-shows {entry} {exit} {lent} {lentExit} {a} p z =
       idle = λ i. rw (fare i) (wins lent entry t .idle i);
       lost = λ i k. rw (fare i) (loses lent entry t i k);
       stations = λ i. rw (fare i, row) (fares-at (roundOf entry .fares) entry i);
+      size = ap length (p .leaves-it) ∙ same-length (round lent) entry;
       sof = l .sof;
       widths = l .widths;
       words = written ∙ l .words;
       sof-window = l .sof-window;
       line = l .line;
-      number = size ∙ l .number;
-      few = rw size (l .few);
+      number = count ∙ l .number;
+      few = rw count (l .few);
       time = rw (written, time) (l .time);
       bound = rw time (l .bound);
     }
@@ -105,11 +108,11 @@ round-shows {entry} {exit} {lent} {lentExit} {a} p z =
     fare : (i : ℕ) → toldFare a i ≡ fareAt entry i
     fare i = ap (λ (r : RoundSaid). getD (r .verdicts) i (verdictOf Idle) .fared) says ∙ ap (λ (v : Verdict). v .fared) (verdict-at entry i)
 
-    size : a .words ≡ length (roundOf entry .words)
-    size = ap (λ (r : RoundSaid). r .words) says
+    count : a .words ≡ length (roundOf entry .words)
+    count = ap (λ (r : RoundSaid). r .words) says
 
     time : a .«line_time» .0 ≡ roundOf entry .lineTime
     time = ap (λ (r : RoundSaid). r .lineTime) says
 
     written : take (a .words) lentExit ≡ roundOf entry .words
-    written = rw (size, p .lends-it) (words-first lent entry t)
+    written = rw (count, p .lends-it) (words-first lent entry t)

@@ -1,6 +1,6 @@
 -- Whoever gets through is read: for each place that a round lets through, the reader finds that place's own message.
 use Prim.Native.Nat.{ℕ, zero, suc, _+_, _≤_}
-use mathlib.Core.Path.{_≡_, refl, sym, _∙_}
+use mathlib.Core.Path.{_≡_, sym, _∙_}
 use mathlib.Core.Bool.{true, false}
 use mathlib.Core.List.{List, [], _∷_}
 use native.Mathlib.Omega.{arith}
@@ -17,12 +17,13 @@ use Rattle.framing.specs.Reading.{good, reading}
 use Rattle.contest.specs.declared.Station.{Station}
 use Rattle.contest.specs.declared.Fared.the-variants.{Through}
 use Rattle.contest.specs.Stations.{mostStored, bitsSent, stored, empty, waitingAt, sound}
-use Rattle.contest.specs.Calls.{round, taken, allSound, lentAfter}
+use Rattle.contest.specs.Calls.{round, taken, lentAfter}
 use Rattle.contest.specs.RowLaws.{winnerOf}
 use Rattle.contest.specs.Places.{stationAt, holder-waits, some-holder}
 use Rattle.contest.specs.Taken.{round-taken, positive}
 use Rattle.contest.specs.Fates.{fareAt, winner-some}
 use Rattle.contest.specs.Winner.{wins}
+use Rattle.contest.specs.RowShows.{sound-at}
 use Rattle.contest.specs.Readable.{round-reads}
 
 -- a station as it stands in memory: eleven stored bytes
@@ -34,12 +35,6 @@ take-bytes : (n : ℕ) (bs : List ℕ) → Bytes bs → Bytes (take n bs)
 take-bytes zero bs h = tt
 take-bytes (suc n) [] h = tt
 take-bytes (suc n) (b ∷ bs) h = (h .0, take-bytes n bs (h .1))
-
-sound-at : (row : List Station) (i : ℕ) → allSound row ≡ true → sound (stationAt row i) ≡ true
-unfolding allSound goodOf
-sound-at [] i h = refl
-sound-at (s ∷ row) zero h = both (sound s) (allSound row) h .0
-sound-at (s ∷ row) (suc i) h = sound-at row i (both (sound s) (allSound row) h .1)
 
 -- a holder in memory stores at least a byte, and a sound one at most 11
 stored-some : (s : Station) → empty s ≡ false → InMemory s → 1 ≤ length (stored s)
