@@ -25,6 +25,7 @@ pub mod Readable
 pub mod ThroughReads
 pub mod Waiting
 pub mod WaitingEnds
+pub mod RunsOut
 pub mod RoundShows
 pub mod Seen
 pub mod SeenCounts
