@@ -25,6 +25,7 @@ abbrev pub Keeps : Entry → Type 0
 Keeps absent = Unit {0}
 Keeps (enters sof pulses) = Start sof × Fair false pulses × (length (bitsIn pulses) ≤ mostBits)
 
+-- each of the entries keeps them
 abbrev pub KeepAll : List Entry → Type 0
 KeepAll [] = Unit {0}
 KeepAll (e ∷ entries) = Keeps e × KeepAll entries
@@ -33,6 +34,7 @@ KeepAll (e ∷ entries) = Keeps e × KeepAll entries
 abbrev pub goesOut : List Entry → Bits
 goesOut entries = firstAt (map seatOf entries)
 
+-- entries that keep the rules ask for nothing outside the windows
 pub all-fair : (entries : List Entry) → KeepAll entries → FairAll false (map seatOf entries)
 all-fair [] h = tt
 all-fair (absent ∷ entries) h = (tt, all-fair entries (h .1))
@@ -99,6 +101,7 @@ pub record Comes (entries : List Entry) (r : Round) : Type 0 where
   pub time : r .lineTime + 300 ≡ sumOf (r .words)
   pub bound : r .lineTime ≤ 14438
 
+-- Every round of entries that keep the rules comes to this.
 pub comes : (entries : List Entry) → KeepAll entries → Comes entries (contestOf entries)
 unfolding contestOf sumOf
 comes entries h =

@@ -77,6 +77,7 @@ pub data Turn (m : Bits) (xs : List Bits) : Type 0 where
   goesNow : first xs ≡ m → differentAhead m xs ≡ 0 → Turn m xs
   waitsOn : ahead (first xs) m ≡ true → differentAhead m xs ≡ suc (differentAhead m (without (first xs) xs)) → Turn m xs
 
+-- One of the two happens to each message that waits.
 pub turn : (m : Bits) (xs : List Bits) → among m xs ≡ true → (first xs ≢ [] → among (first xs) xs ≡ true) → Turn m xs
 turn m xs h f = go (ahead (first xs) m) refl
   where

@@ -30,6 +30,7 @@ module _ (row : List Station) (sound : allSound row ≡ true) (some : allEmpty r
   among-waiting : (i : ℕ) → waitingAt (stationAt row i) ≢ [] → among (waitingAt (stationAt row i)) (waiting row) ≡ true
   among-waiting i n = rw (waiting-at row i) at (at-among (waiting row) i (rw (waiting-at row i) n))
 
+  -- The first of the messages that wait has bits: somebody is a holder.
   pub winner-some : winnerOf row ≢ []
   winner-some =
       let h = somebody row some in
@@ -47,6 +48,7 @@ module _ (row : List Station) (sound : allSound row ≡ true) (some : allEmpty r
     isLost : {k : ℕ} → empty (stationAt row i) ≡ false → ahead (winnerOf row) (waitingAt (stationAt row i)) ≡ true
         → FirstDifference (winnerOf row) (waitingAt (stationAt row i)) k → fareAt row i ≡ Lost k → Fate i
 
+  -- One of the three holds of each place.
   pub fate : (i : ℕ) → Fate i
   fate i = go (empty (stationAt row i)) refl
     where

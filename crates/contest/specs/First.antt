@@ -20,6 +20,7 @@ first (x ∷ xs) = firstOf x (first xs)
 
 -- ## Of two
 
+-- a message alone
 pub first-none : (x : Bits) → firstOf x [] ≡ x
 unfolding firstOf ahead
 first-none [] = refl

@@ -21,6 +21,7 @@ afterAll (c ∷ calls) row = afterAll calls (after c row)
 unfoldable pub waiting : List Station → List Bits
 waiting row = map waitingAt row
 
+-- whether m is one of the messages
 unfoldable pub among : Bits → List Bits → Bool
 among m [] = false
 among m (x ∷ xs) = sameBits m x || among m xs
@@ -30,6 +31,7 @@ unfoldable pub differentAhead : Bits → List Bits → ℕ
 differentAhead m [] = 0
 differentAhead m (x ∷ xs) = cond (ahead x m && not (among x xs)) 1 0 + differentAhead m xs
 
+-- A, for a message m and the row that it is loaded into
 abbrev pub aheadIn : List Station → List ℕ → ℕ
 aheadIn row m = differentAhead (bitsSent m) (waiting row)
 
@@ -39,22 +41,26 @@ aheadIn row m = differentAhead (bitsSent m) (waiting row)
 abbrev pub counted : Call → List Station → ℕ → ℕ
 counted c row n = cond (taken c row) n 0
 
+-- a call that is taken, as a round
 abbrev pub asRound : Call → ℕ
 asRound (load i m) = 0
 asRound (withdraw i) = 0
 asRound (setClock i c) = 0
 asRound (round lent) = 1
 
+-- a call that is taken, as a loading ahead of m
 abbrev pub asLoadAhead : Bits → Call → ℕ
 asLoadAhead m (load i x) = cond (ahead (bitsSent x) m) 1 0
 asLoadAhead m (withdraw i) = 0
 asLoadAhead m (setClock i c) = 0
 asLoadAhead m (round lent) = 0
 
+-- the rounds of a history that begins with this row
 unfoldable pub roundsIn : List Call → List Station → ℕ
 roundsIn [] row = 0
 roundsIn (c ∷ calls) row = counted c row (asRound c) + roundsIn calls (after c row)
 
+-- L, for the bits m and a history that begins with this row
 unfoldable pub loadsAhead : Bits → List Call → List Station → ℕ
 loadsAhead m [] row = 0
 loadsAhead m (c ∷ calls) row = counted c row (asLoadAhead m c) + loadsAhead m calls (after c row)

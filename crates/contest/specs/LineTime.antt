@@ -18,6 +18,7 @@ use Rattle.contest.specs.RowLaws.{winnerOf, goes-first, row-comes}
 use Rattle.contest.specs.Taken.{round-taken}
 use Rattle.contest.specs.Fates.{winner-some}
 
+-- What stands on the line in the round on a row.
 pub record OnTheLine (row : List Station) : Type 0 where
   pub sof : ℕ
   pub widths : List ℕ
@@ -56,6 +57,7 @@ module _ (lent : List ℕ) (row : List Station) (t : taken (round lent) row ≡ 
   unfolding lentAfter
   words-first = rw t (take-append-seam (roundOf row .words) (drop (length (roundOf row .words)) lent))
 
+  -- As many words are lent afterwards as before.
   pub lent-length : length (lentAfter row lent) ≡ length lent
   unfolding lentAfter
   lent-length =

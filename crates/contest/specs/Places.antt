@@ -18,10 +18,12 @@ use Rattle.contest.specs.RowLaws.{sent-some}
 abbrev pub stationAt : List Station → ℕ → Station
 stationAt row i = getD row i blank
 
+-- What waits at a place of the row is what waits at its station.
 pub waiting-at : (row : List Station) (i : ℕ) → getD (waiting row) i [] ≡ waitingAt (stationAt row i)
 unfolding waiting
 waiting-at row i = List·getD-map waitingAt row i blank
 
+-- There are as many places as stations.
 pub waiting-length : (row : List Station) → length (waiting row) ≡ length row
 unfolding waiting
 waiting-length row = length-map row waitingAt
@@ -30,9 +32,11 @@ waiting-length row = length-map row waitingAt
 pub holder-waits : (s : Station) → empty s ≡ false → waitingAt s ≡ bitsSent (stored s)
 holder-waits s e = rw e
 
+-- A holder has bits to send.
 pub holder-some : (s : Station) → empty s ≡ false → waitingAt s ≢ []
 holder-some s e q = sent-some (stored s) (sym (holder-waits s e) ∙ q)
 
+-- Nothing waits at an empty station.
 pub empty-none : (s : Station) → empty s ≡ true → waitingAt s ≡ []
 empty-none s e = rw e
 

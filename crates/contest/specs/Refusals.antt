@@ -30,13 +30,16 @@ pub record Rule : Type 0 where
   pub number : ℕ
   pub holds : Bool
 
+-- the rule of a number
 abbrev pub rule : ℕ → Bool → Rule
 rule number holds = record { number = number; holds = holds }
 
+-- the number of the first rule that holds; 0 where none does
 abbrev pub chain : List Rule → ℕ
 chain [] = 0
 chain (r ∷ rules) = refuse (r .number) (r .holds) (chain rules)
 
+-- the rules without their numbers
 abbrev pub rulesOf : List Rule → List Bool
 rulesOf [] = []
 rulesOf (r ∷ rules) = r .holds ∷ rulesOf rules
@@ -46,6 +49,7 @@ abbrev pub nowhere : ℕ → List Rule → Bool
 nowhere n [] = not (eqb 0 n)
 nowhere n (r ∷ rules) = not (eqb (r .number) n) && nowhere n rules
 
+-- no rule has the number 0, which says that none holds
 abbrev pub noZero : List Rule → Bool
 noZero [] = true
 noZero (r ∷ rules) = not (eqb (r .number) 0) && noZero rules
@@ -76,6 +80,7 @@ stops (r ∷ before) n t later h k = go (r .holds) (stops before n t later (two 
     go true ih = (λ e. absurd (eqb-false (r .number) n (not-true (eqb (r .number) n) (two .0)) e), λ e. never refl (e .0 .0))
     go false ih = (λ e. let p = ih .0 e in ((refl, p .0), p .1), λ e. ih .1 (e .0 .1, e .1))
 
+-- what stands for a rule past a list's end
 abbrev pub none : Rule
 none = rule 0 false
 

@@ -32,6 +32,7 @@ unfoldable pub asked : List Seat → List Pulse
 asked [] = []
 asked (s ∷ seats) = asks s ++ asked seats
 
+-- the widths alone
 abbrev pub widthsOf : List Pulse → List ℕ
 widthsOf ps = map (λ (p : Pulse). p .width) ps
 
@@ -75,6 +76,7 @@ pub record Course : Type 0 where
   pub widths : List ℕ
   pub seats : List Seat
 
+-- no bit more
 abbrev pub over : List Seat → Course
 over seats = record { widths = []; seats = seats }
 
@@ -82,6 +84,7 @@ over seats = record { widths = []; seats = seats }
 abbrev pub bitThen : ℕ → Course → Course
 bitThen w c = record { widths = w ∷ c .widths; seats = c .seats }
 
+-- every remaining station has sent its check byte
 abbrev pub nobodyAsks : List Pulse → Bool
 nobodyAsks [] = true
 nobodyAsks (p ∷ ps) = false

@@ -18,6 +18,7 @@ use Rattle.contest.specs.First.{firstOf, first, first-none, first-same-b
 
 -- ## The bits of places
 
+-- the bits alone
 abbrev pub bitsIn : List Pulse → Bits
 bitsIn ps = map (λ (p : Pulse). p .bit) ps
 
@@ -41,10 +42,12 @@ abbrev pub Fair : Bool → List Pulse → Type 0
 Fair active [] = Unit {0}
 Fair active (p ∷ ps) = SendingWindow active (bitSymbol (p .bit)) (p .width) × Fair (not active) ps
 
+-- the same of a place ..
 abbrev pub FairAt : Bool → Seat → Type 0
 FairAt active (out f) = Unit {0}
 FairAt active (on ps) = Fair active ps
 
+-- .. and of all places
 abbrev pub FairAll : Bool → List Seat → Type 0
 FairAll active [] = Unit {0}
 FairAll active (s ∷ seats) = FairAt active s × FairAll active seats
@@ -115,6 +118,7 @@ against k [] m = Through
 against k (b ∷ w) [] = Lost k
 against k (b ∷ w) (c ∷ m) = cond (Bool·beq c b) (against (suc k) w m) (Lost k)
 
+-- how a place fares against the first message
 abbrev pub fareOf : ℕ → Bits → Seat → Fared
 fareOf k w (out f) = f
 fareOf k w (on ps) = against k w (bitsIn ps)

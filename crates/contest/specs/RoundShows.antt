@@ -32,6 +32,7 @@ use Rattle.contest.specs.RoundSettled.{says-number}
 abbrev pub toldFare : RoundAnswer → ℕ → Fared
 toldFare a i = getD (a .verdicts) i (verdictOf Idle) .fared
 
+-- What the answer, the row and the words of a played round show.
 pub record Shown (entry exit : List Station) (lentExit : List ℕ) (a : RoundAnswer) : Type 0 where
   -- the first of the messages that wait wins
   pub wins : Wins entry (winnerOf entry)

@@ -54,6 +54,7 @@ unfolding pulsesOf
 pulses-fair c g active [] = tt
 pulses-fair c g active (b ∷ bits) = (width-in c g active b, pulses-fair c g (not active) bits)
 
+-- What a clock asks for carries the bits, whatever its widths.
 pub pulses-bits : (c : Clock) (active : Bool) (bits : Bits) → bitsIn (pulsesOf c active bits) ≡ bits
 unfolding pulsesOf
 pulses-bits c active [] = refl

@@ -93,6 +93,7 @@ set-sound [] i s h k = refl
 set-sound (x ∷ row) zero s h k = rw k (both (sound x) (allSound row) h .1)
 set-sound (x ∷ row) (suc i) s h k = let b = both (sound x) (allSound row) h in rw (b .0) (set-sound row i s (b .1) k)
 
+-- Each station of a sound row is sound.
 pub sound-at : (row : List Station) (i : ℕ) → allSound row ≡ true → sound (stationAt row i) ≡ true
 unfolding allSound goodOf
 sound-at [] i h = refl

@@ -21,12 +21,14 @@ pub data Event : Type 0 where
   setsClock : (place : ℕ) → Clock → Called → Event
   plays : (lentEntry lentExit : List ℕ) → RoundAnswer → Event
 
+-- the call itself
 abbrev pub callOf : Event → Call
 callOf (loads i m a) = load i m
 callOf (withdraws i a) = withdraw i
 callOf (setsClock i c a) = setClock i c
 callOf (plays lentEntry lentExit a) = round lentEntry
 
+-- the calls of a history
 abbrev pub callsOf : List Event → List Call
 callsOf [] = []
 callsOf (e ∷ events) = callOf e ∷ callsOf events
@@ -51,6 +53,7 @@ answered (withdraws i a) = calledNumber a
 answered (setsClock i c a) = calledNumber a
 answered (plays lentEntry lentExit a) = toldNumber (a .told)
 
+-- the call was not turned away
 abbrev pub accepted : Event → Bool
 accepted e = eqb (answered e) 0
 
@@ -61,6 +64,7 @@ roundSeen (withdraws i a) = 0
 roundSeen (setsClock i c a) = 0
 roundSeen (plays lentEntry lentExit a) = cond (eqb (toldNumber (a .told)) 0) 1 0
 
+-- the rounds that were played
 unfoldable pub roundsSeen : List Event → ℕ
 roundsSeen [] = 0
 roundsSeen (e ∷ events) = roundSeen e + roundsSeen events
@@ -72,6 +76,7 @@ loadSeen m (withdraws i a) = 0
 loadSeen m (setsClock i c a) = 0
 loadSeen m (plays lentEntry lentExit a) = 0
 
+-- L, for the message x
 unfoldable pub loadsSeen : List ℕ → List Event → ℕ
 loadsSeen x [] = 0
 loadsSeen x (e ∷ events) = loadSeen (bitsSent x) e + loadsSeen x events
@@ -83,6 +88,7 @@ withdrawalSeen s (withdraws i a) = eqb s i && eqb (calledNumber a) 0
 withdrawalSeen s (setsClock i c a) = false
 withdrawalSeen s (plays lentEntry lentExit a) = false
 
+-- no withdrawal from place s was accepted
 abbrev pub NoWithdrawalSeen : ℕ → List Event → Type 0
 NoWithdrawalSeen s [] = Unit {0}
 NoWithdrawalSeen s (e ∷ events) = (withdrawalSeen s e ≡ false) × NoWithdrawalSeen s events
@@ -94,6 +100,7 @@ trafficSeen (withdraws i a) = eqb (calledNumber a) 0
 trafficSeen (setsClock i c a) = false
 trafficSeen (plays lentEntry lentExit a) = false
 
+-- no loading and no withdrawal was accepted
 abbrev pub NoTrafficSeen : List Event → Type 0
 NoTrafficSeen [] = Unit {0}
 NoTrafficSeen (e ∷ events) = (trafficSeen e ≡ false) × NoTrafficSeen events

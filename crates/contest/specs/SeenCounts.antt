@@ -22,10 +22,12 @@ answer-tells (withdraws i a) entry exit k = k .answers-it
 answer-tells (setsClock i c a) entry exit k = k .answers-it
 answer-tells (plays lentEntry lentExit a) entry exit k = ap (λ (r : RoundSaid). r .number) (k .says-it) ∙ says-number entry lentEntry
 
+-- A call is accepted exactly where the rules take it.
 pub accepted-taken : (e : Event) (entry exit : List Station) → Keeps e entry exit → accepted e ≡ taken (callOf e) entry
 unfolding taken
 accepted-taken e entry exit k = ap (λ (n : ℕ). eqb n 0) (answer-tells e entry exit k)
 
+-- The row after a call is the one that the definitions give.
 pub row-after : (e : Event) (entry exit : List Station) → Keeps e entry exit → exit ≡ after (callOf e) entry
 row-after (loads i m a) entry exit k = k .leaves-it
 row-after (withdraws i a) entry exit k = k .leaves-it
@@ -61,6 +63,7 @@ load-counts m (withdraws i a) row t = neither (taken (withdraw i) row)
 load-counts m (setsClock i c a) row t = neither (taken (setClock i c) row)
 load-counts m (plays lentEntry lentExit a) row t = neither (taken (round lentEntry) row)
 
+-- The rounds that are seen are the rounds.
 pub rounds-counted : {entry exit : List Station} {events : List Event} → Happens entry events exit
     → roundsSeen events ≡ roundsIn (callsOf events) entry
 unfolding roundsSeen roundsIn
@@ -68,6 +71,7 @@ rounds-counted nothing = refl
 rounds-counted (then {entry} {middle} {e = e} k h) =
     rw (← row-after e entry middle k) (omega (arith, rounds-counted h, round-counts e entry (accepted-taken e entry middle k)))
 
+-- The loadings that are seen are the loadings.
 pub loads-counted : (x : List ℕ) {entry exit : List Station} {events : List Event} → Happens entry events exit
     → loadsSeen x events ≡ loadsAhead (bitsSent x) (callsOf events) entry
 unfolding loadsSeen loadsAhead
@@ -88,12 +92,14 @@ traffic-tells (withdraws i a) row t n = rw (← t) n
 traffic-tells (setsClock i c a) row t n = refl
 traffic-tells (plays lentEntry lentExit a) row t n = refl
 
+-- Where no withdrawal is seen, none was.
 pub none-withdrawn : (s : ℕ) {entry exit : List Station} {events : List Event} → Happens entry events exit → NoWithdrawalSeen s events
     → NotWithdrawn s (callsOf events) entry
 none-withdrawn s nothing n = tt
 none-withdrawn s (then {entry} {middle} {e = e} k h) n =
     (withdrawal-tells s e entry (accepted-taken e entry middle k) (n .0), rw (← row-after e entry middle k) (none-withdrawn s h (n .1)))
 
+-- Where no loading and no withdrawal is seen, none was.
 pub none-disturbs : {entry exit : List Station} {events : List Event} → Happens entry events exit → NoTrafficSeen events
     → Undisturbed (callsOf events) entry
 none-disturbs nothing n = tt

@@ -22,6 +22,7 @@ mostStored = 11
 abbrev pub Bits : Type 0
 Bits = List Bool
 
+-- the bits that a message sends
 abbrev pub bitsSent : List ℕ → Bits
 bitsSent m = bitsOf (withCheck m)
 

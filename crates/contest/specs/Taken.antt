@@ -68,6 +68,7 @@ no-zero (withdraw i) row = refl
 no-zero (setClock i c) row = refl
 no-zero (round lent) row = refl
 
+-- the same rules without their numbers
 abbrev pub judged : Call → List Station → List Bool
 judged c row = rulesOf (rulesFor c row)
 
@@ -83,6 +84,7 @@ neither : (a b : Bool) → (a || b) ≡ false → (a ≡ false) × (b ≡ false)
 neither true b h = never refl h
 neither false b h = (refl, h)
 
+-- a number that is not 0 is at least 1
 pub positive : (n : ℕ) → eqb n 0 ≡ false → 1 ≤ n
 positive zero e = absurd (eqb-false 0 0 e refl)
 positive (suc n) e = omega arith
@@ -98,6 +100,7 @@ row-passed row a b =
     let n = neither (eqb (length row) 0) (ltb mostStations (length row)) a in
     record { some = positive (length row) (n .0); few = ltb-false mostStations (length row) (n .1); sound = not-false (allSound row) b }
 
+-- what a loading that is taken has passed
 pub record LoadTaken (i : ℕ) (m : List ℕ) (row : List Station) : Type 0 where
   pub passed : RowPassed row
   pub there : i < length row
@@ -105,6 +108,7 @@ pub record LoadTaken (i : ℕ) (m : List ℕ) (row : List Station) : Type 0 wher
   pub few : length m ≤ mostStored
   pub free : empty (getD row i blank) ≡ true
 
+-- It has passed all of that.
 pub load-taken : (i : ℕ) (m : List ℕ) (row : List Station) → taken (load i m) row ≡ true → LoadTaken i m row
 load-taken i m row e =
     let n = taken-when (load i m) row .0 e in
@@ -117,31 +121,37 @@ load-taken i m row e =
       free = not-false (empty (getD row i blank)) (n .1 .1 .1 .1 .0);
     }
 
+-- what a withdrawal that is taken has passed
 pub record WithdrawTaken (i : ℕ) (row : List Station) : Type 0 where
   pub passed : RowPassed row
   pub there : i < length row
   pub full : empty (getD row i blank) ≡ false
 
+-- It has passed all of that.
 pub withdraw-taken : (i : ℕ) (row : List Station) → taken (withdraw i) row ≡ true → WithdrawTaken i row
 withdraw-taken i row e =
     let n = taken-when (withdraw i) row .0 e in
     record { passed = row-passed row (n .0) (n .1 .0); there = leb-false (length row) i (n .1 .1 .0); full = n .1 .1 .1 .0 }
 
+-- what the setting of a clock that is taken has passed
 pub record ClockTaken (i : ℕ) (c : Clock) (row : List Station) : Type 0 where
   pub passed : RowPassed row
   pub there : i < length row
   pub good : goodOf c ≡ true
 
+-- It has passed all of that.
 pub clock-taken : (i : ℕ) (c : Clock) (row : List Station) → taken (setClock i c) row ≡ true → ClockTaken i c row
 clock-taken i c row e =
     let n = taken-when (setClock i c) row .0 e in
     record { passed = row-passed row (n .0) (n .1 .0); there = leb-false (length row) i (n .1 .1 .0); good = not-false (goodOf c) (n .1 .1 .1 .0) }
 
+-- what a round that is taken has passed
 pub record RoundTaken (lent : List ℕ) (row : List Station) : Type 0 where
   pub passed : RowPassed row
   pub words : mostWords ≤ length lent
   pub somebody : allEmpty row ≡ false
 
+-- It has passed all of that.
 pub round-taken : (lent : List ℕ) (row : List Station) → taken (round lent) row ≡ true → RoundTaken lent row
 round-taken lent row e =
     let n = taken-when (round lent) row .0 e in

@@ -90,6 +90,7 @@ module _ (s : ℕ) (m : Bits) (some : m ≢ []) (row : List Station) (h : WaitsA
           (rw (w, t) (omega arith))
           (λ d. rw (w, t) (omega arith))
 
+  -- Every call is one of the three.
   pub step : (c : Call) → Step s m c row
   step c = go c (taken c row) refl
     where
@@ -122,6 +123,7 @@ pub record TakenBack (s : ℕ) (m : Bits) (calls : List Call) (row : List Statio
   pub accepted : taken (withdraw s) (afterAll before row) ≡ true
   pub held : WaitsAt s m (afterAll before row)
 
+-- What has become of the bits m, which waited at place s.
 pub data Fate (s : ℕ) (m : Bits) (calls : List Call) (row : List Station) : Type 0 where
   out : GoesOut s m calls row → Fate s m calls row
   withdrawn : TakenBack s m calls row → Fate s m calls row

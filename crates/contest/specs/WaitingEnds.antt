@@ -62,12 +62,14 @@ sent s x lent row b lo hi t h w =
 
 -- ## Histories in which nothing is withdrawn, or nothing disturbs
 
+-- Where nothing is withdrawn from s, no call of the history withdraws from s.
 pub kept : (s : ℕ) (before later : List Call) (row : List Station) → NotWithdrawn s (before ++ (withdraw s ∷ later)) row
     → taken (withdraw s) (afterAll before row) ≡ true → ⊥
 unfolding afterAll
 kept s [] later row n t = never (rw (eq-eqb s s refl) t) (n .0)
 kept s (c ∷ before) later row n t = kept s before later (after c row) (n .1) t
 
+-- Without a loading or withdrawal, nothing is withdrawn from s ..
 pub undisturbed-kept : (s : ℕ) (calls : List Call) (row : List Station) → Undisturbed calls row → NotWithdrawn s calls row
 undisturbed-kept s [] row u = tt
 undisturbed-kept s (c ∷ calls) row u = (go c (u .0), undisturbed-kept s calls (after c row) (u .1))
@@ -82,6 +84,7 @@ undisturbed-kept s (c ∷ calls) row u = (go c (u .0), undisturbed-kept s calls 
     go (setClock i c) d = refl
     go (round lent) d = refl
 
+-- .. and L is 0 ..
 pub undisturbed-loads : (m : Bits) (calls : List Call) (row : List Station) → Undisturbed calls row → loadsAhead m calls row ≡ 0
 unfolding loadsAhead
 undisturbed-loads m [] row u = refl
@@ -97,6 +100,7 @@ undisturbed-loads m (c ∷ calls) row u = omega (arith, go c (u .0), undisturbed
     go (setClock i c) d = nothing (taken (setClock i c) row)
     go (round lent) d = nothing (taken (round lent) row)
 
+-- .. and so it is up to any call.
 pub undisturbed-before : (before later : List Call) (row : List Station) → Undisturbed (before ++ later) row → Undisturbed before row
 undisturbed-before [] later row u = tt
 undisturbed-before (c ∷ before) later row u = (u .0, undisturbed-before before later (after c row) (u .1))

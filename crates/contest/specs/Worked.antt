@@ -24,6 +24,7 @@ use Rattle.contest.specs.Histories.{afterAll}
 abbrev pub holds : Clock → List ℕ → Station
 holds c m = record { clock = c; bytes = m ++ replicate (mostStored - length m) 0; len = length m }
 
+-- a clock of these widths
 abbrev pub clockOf : (short long sof : ℕ) → Clock
 clockOf short long sof = record { short = record { 0 = short }; long = record { 0 = long }; sof = record { 0 = sof } }
 
@@ -68,9 +69,11 @@ goOut row = map isThrough (roundOf row .fares)
     isThrough Through = true
     isThrough (Lost k) = false
 
+-- 101 lent words
 abbrev pub words : List ℕ
 words = replicate 101 0
 
+-- three stations that hold 00, FF and FF FF
 abbrev pub three : List Station
 three = holds nominalClock (0x00 ∷ []) ∷ holds nominalClock (0xFF ∷ []) ∷ holds nominalClock (0xFF ∷ 0xFF ∷ []) ∷ []
 
@@ -79,10 +82,12 @@ pub first-out : goOut three ≡ true ∷ false ∷ false ∷ []
 unfolding goOut roundOf contestOf play asked shortest longest onLine classOf pulsesOf sofsAsked sumOf bitsOf checkOf registerFrom stepOf
 first-out = refl
 
+-- FF FF in round 2 ..
 pub second-out : goOut (afterAll (round words ∷ []) three) ≡ false ∷ false ∷ true ∷ []
 unfolding goOut afterAll after taken numberOf done afterFares allSound allEmpty goodOf roundOf contestOf play asked shortest longest onLine classOf pulsesOf sofsAsked sumOf bitsOf checkOf registerFrom stepOf
 second-out = refl
 
+-- .. and FF in round 3.
 pub third-out : goOut (afterAll (round words ∷ round words ∷ []) three) ≡ false ∷ true ∷ false ∷ []
 unfolding goOut afterAll after taken numberOf done afterFares allSound allEmpty goodOf roundOf contestOf play asked shortest longest onLine classOf pulsesOf sofsAsked sumOf bitsOf checkOf registerFrom stepOf
 third-out = refl
@@ -92,14 +97,17 @@ pub eleven-taken : numberOf (load 0 (replicate 11 0xFF)) (blank ∷ []) ≡ 0
 unfolding numberOf allSound goodOf
 eleven-taken = refl
 
+-- 12 bytes
 pub twelve-refused : numberOf (load 0 (replicate 12 0xFF)) (blank ∷ []) ≡ 37
 unfolding numberOf allSound goodOf
 twelve-refused = refl
 
+-- 101 words
 pub words-enough : numberOf (round (replicate 101 0)) three ≡ 0
 unfolding numberOf allSound allEmpty goodOf
 words-enough = refl
 
+-- 100 words
 pub words-short : numberOf (round (replicate 100 0)) three ≡ 32
 unfolding numberOf allSound allEmpty goodOf
 words-short = refl
