@@ -8,3 +8,4 @@ pub mod Writing
 pub mod FirstLaws
 pub mod BitLaws
 pub mod StandingLaws
+pub mod WidthLaws
