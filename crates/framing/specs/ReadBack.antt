@@ -126,7 +126,7 @@ wave-words f = ap length (f .words-are) ∙ omega (arith, length-append (f .inne
 pub wave-few : {main : List ℕ} {kind : Response} {rs ws : List ℕ} → FrameWave main kind rs ws → badMessage main kind rs ≡ false → length ws ≤ mostWords
 wave-few {main} {kind} {rs} f h = omega (arith, wave-words f, symbols-few main kind rs h)
 
--- The same wherever the words stand in a recording.
+-- A wave is read wherever its words stand in a recording, beginning passive.
 reads-standing : (line ws main : List ℕ) (kind : Response) (rs : List ℕ) (o lent : ℕ) → FrameWave main kind rs ws → Stand line o ws
     → o + length ws ≤ length line → badMessage main kind rs ≡ false → Bytes main → Bytes rs → o % 2 ≡ 0 → mostBytes ≤ lent
     → reading line o lent ≡ good (withCheck main) (responseSent kind rs) kind o (o + length ws - 1)
