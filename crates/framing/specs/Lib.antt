@@ -8,6 +8,7 @@ pub mod Writing
 pub mod FirstLaws
 pub mod BitLaws
 pub mod StandingLaws
+pub mod WidthLaws
 pub mod Refusals
 pub mod Meant
 pub mod Rows

@@ -1,0 +1,58 @@
+-- Histories of calls on a row, and what demand 3 counts in them. "Demand 3 speaks of a row changed only by these calls, each
+-- lent the whole of it, and counts rounds from the loading."
+use Prim.Native.Nat.{ℕ, _+_}
+use mathlib.Core.Bool.{Bool, true, false, cond, not, _&&_, _||_}
+use mathlib.Core.List.{List, [], _∷_, map}
+use Rattle.contest.specs.declared.Station.{Station}
+use Rattle.contest.specs.Stations.{Bits, bitsSent, waitingAt}
+use Rattle.contest.specs.Order.{ahead, sameBits}
+use Rattle.contest.specs.Calls.{Call, load, withdraw, setClock, round, taken, after}
+
+-- the row after the calls of a history, the first call first
+unfoldable pub afterAll : List Call → List Station → List Station
+afterAll [] row = row
+afterAll (c ∷ calls) row = afterAll calls (after c row)
+
+-- ## A: "the different messages ahead of it when it was loaded"
+
+-- the bits that wait at each place of a row: none at an empty one
+unfoldable pub waiting : List Station → List Bits
+waiting row = map waitingAt row
+
+unfoldable pub among : Bits → List Bits → Bool
+among m [] = false
+among m (x ∷ xs) = sameBits m x || among m xs
+
+-- How many different ones are ahead of m: of equal ones the last is counted.
+unfoldable pub differentAhead : Bits → List Bits → ℕ
+differentAhead m [] = 0
+differentAhead m (x ∷ xs) = cond (ahead x m && not (among x xs)) 1 0 + differentAhead m xs
+
+abbrev pub aheadIn : List Station → List ℕ → ℕ
+aheadIn row m = differentAhead (bitsSent m) (waiting row)
+
+-- ## L: "the loadings ahead of it accepted since", and the rounds
+
+-- what a call counts for: nothing where it is turned away, "no round" and "no loading"
+abbrev pub counted : Call → List Station → ℕ → ℕ
+counted c row n = cond (taken c row) n 0
+
+abbrev pub asRound : Call → ℕ
+asRound (load i m) = 0
+asRound (withdraw i) = 0
+asRound (setClock i c) = 0
+asRound (round lent) = 1
+
+abbrev pub asLoadAhead : Bits → Call → ℕ
+asLoadAhead m (load i x) = cond (ahead (bitsSent x) m) 1 0
+asLoadAhead m (withdraw i) = 0
+asLoadAhead m (setClock i c) = 0
+asLoadAhead m (round lent) = 0
+
+unfoldable pub roundsIn : List Call → List Station → ℕ
+roundsIn [] row = 0
+roundsIn (c ∷ calls) row = counted c row (asRound c) + roundsIn calls (after c row)
+
+unfoldable pub loadsAhead : Bits → List Call → List Station → ℕ
+loadsAhead m [] row = 0
+loadsAhead m (c ∷ calls) row = counted c row (asLoadAhead m c) + loadsAhead m calls (after c row)

@@ -1,0 +1,16 @@
+pub mod Stations
+pub mod Order
+pub mod Round
+pub mod Contest
+pub mod Calls
+pub mod Promises
+pub mod Histories
+pub mod OrderLaws
+pub mod LineLaws
+pub mod First
+pub mod RoundLaws
+pub mod ContestLaws
+pub mod Refusals
+pub mod Taken
+pub mod RowSettled
+pub mod RoundSettled
