@@ -1,2 +1,5 @@
-pub mod Words
-pub mod Writes
+mod Exits
+mod Searching
+mod Answers
+mod Words
+mod Writes
