@@ -34,4 +34,5 @@ pub mod Spelled
 pub mod Nominal
 pub mod Again
 pub mod RoundTrip
+pub mod TwoCalls
 pub mod WorkedReading
