@@ -1,30 +1,28 @@
 -- What each call does to the messages that wait in a row.
-use Prim.Native.Nat.{ℕ, zero, suc, _≤_, _<_}
+use Prim.Native.Nat.{ℕ, zero, suc, _≤_}
 use mathlib.Core.Path.{_≡_, refl, sym, ap, ap₂, _∙_}
 use mathlib.Core.Logic.{_⊎_, inl, inr, _≢_}
 use mathlib.Core.Bool.{Bool, true, false, cond}
-use mathlib.Core.List.{List, [], _∷_, _++_, map}
+use mathlib.Core.List.{List, [], _∷_, map}
 use native.Mathlib.Omega.{arith}
-use lib.Dec.{eqb}
 use lib.ListN.{length, drop, getD, set}
 use lib.Seq.{set-getD, take-append-seam}
 use borrow.Author.Tests.{ne-eqb}
 use Rattle.symbol.specs.declared.Clock.{Clock}
 use Rattle.contest.specs.declared.Station.{Station}
-use Rattle.contest.specs.declared.Fared.{Fared}
-use Rattle.contest.specs.declared.Fared.the-variants.{Idle, Through, Lost}
-use Rattle.contest.specs.Stations.{Bits, bitsSent, stored, empty, waitingAt, blank}
+use Rattle.contest.specs.declared.Fared.the-variants.{Idle}
+use Rattle.contest.specs.Stations.{Bits, bitsSent, stored, empty, waitingAt}
 use Rattle.contest.specs.Order.{ahead, sameBits}
 use Rattle.contest.specs.OrderLaws.{equal-or-behind, ahead-differs, same-refl, different-same}
-use Rattle.contest.specs.Contest.{roundOf, emptied, afterFare, afterFares}
-use Rattle.contest.specs.Calls.{Call, load, withdraw, setClock, round, allSound, taken, loaded, clocked, done, after}
-use Rattle.contest.specs.Histories.{waiting, among}
+use Rattle.contest.specs.Contest.{emptied, afterFare, afterFares}
+use Rattle.contest.specs.Calls.{Call, load, withdraw, setClock, round, taken, loaded, clocked, done, after}
+use Rattle.contest.specs.Histories.{waiting}
 use Rattle.contest.specs.First.{first, none-ahead}
 use Rattle.contest.specs.RoundLaws.{against}
 use Rattle.contest.specs.RowLaws.{winnerOf, faresAgainst, row-fares}
 use Rattle.contest.specs.Difference.{lost-there, differs, same-through}
-use Rattle.contest.specs.Places.{stationAt, waiting-at, empty-none, holder-waits, holder-some, at-among}
-use Rattle.contest.specs.Taken.{load-taken, LoadTaken, round-taken}
+use Rattle.contest.specs.Places.{stationAt, waiting-at, at-among}
+use Rattle.contest.specs.Taken.{load-taken, round-taken}
 use Rattle.contest.specs.Counting.{without}
 
 -- ## One station changed
@@ -84,7 +82,8 @@ none-before xs i = go (getD xs i []) refl
         nothing : (b : Bool) (x : Bits) → b ∷ x ≢ []
         nothing b x q = let z : _≡_ {A = ℕ} 0 1 = cc in omega arith
 
-fared-waits : (w : Bits) (s : Station) → ahead (waitingAt s) w ≡ false → waitingAt (afterFare (faresAgainst w s) s) ≡ cond (sameBits (waitingAt s) w) [] (waitingAt s)
+fared-waits : (w : Bits) (s : Station) → ahead (waitingAt s) w ≡ false
+    → waitingAt (afterFare (faresAgainst w s) s) ≡ cond (sameBits (waitingAt s) w) [] (waitingAt s)
 fared-waits w s a = go (empty s) refl
   where
     m : Bits
@@ -104,13 +103,15 @@ fared-waits w s a = go (empty s) refl
     go true e = rw e (nowhere (sameBits [] w))
     go false e = held e (equal-or-behind m w (rw e at a))
 
-fares-waiting : (w : Bits) (row : List Station) → Behind w (waiting row) → waiting (afterFares (map (faresAgainst w) row) row) ≡ without w (waiting row)
+fares-waiting : (w : Bits) (row : List Station) → Behind w (waiting row)
+    → waiting (afterFares (map (faresAgainst w) row) row) ≡ without w (waiting row)
 unfolding waiting afterFares without
 fares-waiting w [] h = refl
 fares-waiting w (s ∷ row) h = ap₂ (λ (x : Bits) (xs : List Bits). x ∷ xs) (fared-waits w s (h .0)) (fares-waiting w row (h .1))
 
 -- A round takes the winner out of the row, wherever it waits, and nothing else.
-pub round-waiting : (lent : List ℕ) (row : List Station) → taken (round lent) row ≡ true → waiting (after (round lent) row) ≡ without (winnerOf row) (waiting row)
+pub round-waiting : (lent : List ℕ) (row : List Station) → taken (round lent) row ≡ true
+    → waiting (after (round lent) row) ≡ without (winnerOf row) (waiting row)
 unfolding after done
 round-waiting lent row t =
     rw (t, row-fares row (round-taken lent row t .passed .sound))

@@ -1,7 +1,7 @@
 -- The calls on a row: when each is turned away, and the row and the lent words afterwards. Document 01, "One can load ..,
 -- withdraw .., set a clock, and run a round; what isn't named stays", and "When a call is turned away".
 use Prim.Native.Nat.{ℕ}
-use mathlib.Core.Bool.{Bool, true, false, cond, not, _&&_, _||_}
+use mathlib.Core.Bool.{Bool, true, cond, not, _&&_, _||_}
 use mathlib.Core.List.{List, [], _∷_, _++_}
 use lib.Dec.{eqb, leb, ltb}
 use lib.ListN.{length, drop, getD, set}

@@ -1,6 +1,6 @@
 -- A round on a row of stations: what each brings to it, and the words, the verdicts and the line time that come of it.
 use Prim.Native.Nat.{ℕ, _+_, _-_}
-use mathlib.Core.Bool.{Bool, true, false, cond, not}
+use mathlib.Core.Bool.{Bool, false, cond, not}
 use mathlib.Core.List.{List, [], _∷_, _++_, map}
 use lib.ListN.{length, replicate}
 use Rattle.symbol.specs.declared.Clock.{Clock}

@@ -1,23 +1,22 @@
 -- A round of any entries whose widths lie in the sending windows: what stands on the line, how each place fares, and how long
 -- it takes. Stations with clocks are one case of it.
-use Prim.Native.Nat.{ℕ, suc, _+_, _*_, _≤_, _<_, max}
-use mathlib.Core.Path.{_≡_, refl, sym, ap, _∙_}
+use Prim.Native.Nat.{ℕ, suc, _+_, _*_, _≤_}
+use mathlib.Core.Path.{_≡_, refl, ap}
 use mathlib.Core.Logic.{_≢_}
-use mathlib.Core.Bool.{Bool, true, false, cond, not}
+use mathlib.Core.Bool.{Bool, true, false, cond}
 use mathlib.Core.List.{List, [], _∷_, _++_, map}
 use native.Mathlib.Omega.{arith}
-use lib.ListN.{length, length-append, length-map}
+use lib.ListN.{length, length-append}
 use Rattle.symbol.specs.Clocks.{Start}
-use Rattle.symbol.specs.Sending.{SendingWindow, endWidth}
+use Rattle.symbol.specs.Sending.{SendingWindow}
 use Rattle.symbol.specs.SendingLaws.{bitSymbol}
 use Rattle.framing.specs.Writing.{mostWords}
-use Rattle.contest.specs.declared.Fared.the-variants.{Idle}
 use Rattle.contest.specs.Stations.{Bits}
 use Rattle.contest.specs.Order.{ahead}
-use Rattle.contest.specs.Round.{Pulse, Seat, out, on, longest, mostBits, play, Course}
-use Rattle.contest.specs.Contest.{Entry, absent, enters, sofAsks, sofsAsked, seatOf, sumOf, Round, told, contestOf}
+use Rattle.contest.specs.Round.{longest, mostBits, play}
+use Rattle.contest.specs.Contest.{Entry, absent, enters, sofsAsked, seatOf, sumOf, Round, contestOf}
 use Rattle.contest.specs.First.{first, firstOf}
-use Rattle.contest.specs.RoundLaws.{bitsIn, bitsAt, firstAt, Carried, none, next, Fair, FairAll, fareOf, Runs, plays-out}
+use Rattle.contest.specs.RoundLaws.{bitsIn, firstAt, Carried, none, next, Fair, FairAll, fareOf, plays-out}
 
 -- ## Entries
 

@@ -1,7 +1,7 @@
 -- How many different messages are ahead of one, and how that number changes when a message is taken out of the row or put in.
-use Prim.Native.Nat.{ℕ, zero, suc, _+_, _≤_, _<_}
-use mathlib.Core.Path.{_≡_, refl, sym, ap, _∙_}
-use mathlib.Core.Logic.{_⊎_, inl, inr, _≢_}
+use Prim.Native.Nat.{ℕ, zero, suc, _+_, _≤_}
+use mathlib.Core.Path.{_≡_, refl, sym, _∙_}
+use mathlib.Core.Logic.{inl, inr, _≢_}
 use mathlib.Core.Bool.{Bool, true, false, cond, not, _&&_, _||_, or-true}
 use mathlib.Core.List.{List, [], _∷_}
 use native.Mathlib.Omega.{arith}
@@ -9,7 +9,7 @@ use lib.ListN.{length, getD, set}
 use Rattle.laws.specs.Tests.{never}
 use Rattle.contest.specs.Stations.{Bits}
 use Rattle.contest.specs.Order.{ahead, sameBits}
-use Rattle.contest.specs.OrderLaws.{irreflexive, equal-or-behind, ahead-differs, ahead-some, same-true, same-refl, same-no, different-same}
+use Rattle.contest.specs.OrderLaws.{irreflexive, equal-or-behind, ahead-some, same-true, same-refl, same-no, different-same}
 use Rattle.contest.specs.Histories.{among, differentAhead}
 use Rattle.contest.specs.First.{first, none-ahead}
 
@@ -26,7 +26,8 @@ unfolding without among
 without-other y b [] n d = refl
 without-other y b (x ∷ xs) n d = go (sameBits x b) refl (without-other y b xs n d)
   where
-    go : (t : Bool) → sameBits x b ≡ t → among y (without b xs) ≡ among y xs → (sameBits y (cond t [] x) || among y (without b xs)) ≡ (sameBits y x || among y xs)
+    go : (t : Bool) → sameBits x b ≡ t → among y (without b xs) ≡ among y xs
+        → (sameBits y (cond t [] x) || among y (without b xs)) ≡ (sameBits y x || among y xs)
     go true e ih = rw (same-true x b e, different-same y [] n, different-same y b d) ih
     go false e ih = rw ih refl
 
@@ -89,7 +90,8 @@ turn m xs h f = go (ahead (first xs) m) refl
 -- ## Putting a message in
 
 -- Where all that is ahead of m in one row is in another too, no more are counted in the first.
-pub count-within : (m : Bits) (xs ys : List Bits) → ((z : Bits) → ahead z m ≡ true → among z xs ≡ true → among z ys ≡ true) → differentAhead m xs ≤ differentAhead m ys
+pub count-within : (m : Bits) (xs ys : List Bits) → ((z : Bits) → ahead z m ≡ true → among z xs ≡ true → among z ys ≡ true)
+    → differentAhead m xs ≤ differentAhead m ys
 unfolding differentAhead among
 count-within m [] ys h = omega arith
 count-within m (x ∷ xs) ys h = go (ahead x m) refl (among x xs) refl (count-within m xs)
@@ -116,7 +118,8 @@ among-set z (y ∷ xs) zero x h = go (sameBits z x) h
     go false h = rw (h, or-true)
 among-set z (y ∷ xs) (suc i) x h = go (sameBits z x) (sameBits z y) h (among-set z xs i x)
   where
-    go : (t u : Bool) → (u || among z (set xs i x)) ≡ true → (among z (set xs i x) ≡ true → (t || among z xs) ≡ true) → (t || (u || among z xs)) ≡ true
+    go : (t u : Bool) → (u || among z (set xs i x)) ≡ true → (among z (set xs i x) ≡ true → (t || among z xs) ≡ true)
+        → (t || (u || among z xs)) ≡ true
     go true u h ih = refl
     go false true h ih = refl
     go false false h ih = ih h
@@ -126,7 +129,8 @@ pub set-count : (m : Bits) (xs : List Bits) (i : ℕ) (x : Bits) → differentAh
 unfolding differentAhead
 set-count m xs i x = go (ahead x m) (not (among x xs)) (count-within m (set xs i x) (x ∷ xs) (λ z a k. among-set z xs i x k))
   where
-    go : (a u : Bool) → differentAhead m (set xs i x) ≤ cond (a && u) 1 0 + differentAhead m xs → differentAhead m (set xs i x) ≤ cond a 1 0 + differentAhead m xs
+    go : (a u : Bool) → differentAhead m (set xs i x) ≤ cond (a && u) 1 0 + differentAhead m xs
+        → differentAhead m (set xs i x) ≤ cond a 1 0 + differentAhead m xs
     go false u h = h
     go true true h = h
     go true false h = omega arith

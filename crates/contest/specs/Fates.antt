@@ -1,27 +1,23 @@
 -- How each place of a sound row fares in a round: as what waits there stands to the first of the messages that wait.
 use Prim.Native.Nat.{ℕ}
-use mathlib.Core.Path.{_≡_, refl, sym, ap, _∙_}
-use mathlib.Core.Logic.{_≢_, _↔_, _⊎_, inl, inr}
-use mathlib.Core.Bool.{Bool, true, false, cond}
-use mathlib.Core.List.{List, [], _∷_, map}
-use native.Mathlib.Omega.{arith}
+use mathlib.Core.Path.{_≡_, refl, ap, _∙_}
+use mathlib.Core.Logic.{_≢_, _⊎_, inl, inr}
+use mathlib.Core.Bool.{Bool, true, false}
+use mathlib.Core.List.{List, []}
 use lib.ListN.{getD, List·getD-map}
-use Rattle.laws.specs.Tests.{never}
 use Rattle.contest.specs.declared.Station.{Station}
 use Rattle.contest.specs.declared.Fared.{Fared}
 use Rattle.contest.specs.declared.Fared.the-variants.{Idle, Through, Lost}
-use Rattle.contest.specs.Stations.{Bits, bitsSent, stored, empty, waitingAt, blank}
-use Rattle.contest.specs.Order.{Ahead, ahead}
-use Rattle.contest.specs.OrderLaws.{ahead-is, ahead-differs}
+use Rattle.contest.specs.Stations.{empty, waitingAt, blank}
+use Rattle.contest.specs.Order.{ahead}
 use Rattle.contest.specs.Contest.{roundOf}
-use Rattle.contest.specs.Calls.{round, taken, allSound, allEmpty}
+use Rattle.contest.specs.Calls.{allSound, allEmpty}
 use Rattle.contest.specs.Histories.{waiting, among}
-use Rattle.contest.specs.First.{first, first-among, first-some, first-or-behind}
+use Rattle.contest.specs.First.{first-some, first-or-behind}
 use Rattle.contest.specs.RoundLaws.{against}
 use Rattle.contest.specs.RowLaws.{winnerOf, faresAgainst, row-fares}
-use Rattle.contest.specs.Taken.{RoundTaken, round-taken}
-use Rattle.contest.specs.Places.{stationAt, waiting-at, holder-waits, holder-some, empty-none, some-holder, at-among, among-at, somebody}
-use Rattle.contest.specs.Difference.{FirstDifference, lost-there, difference-once, differs, same-through}
+use Rattle.contest.specs.Places.{stationAt, waiting-at, holder-some, at-among, somebody}
+use Rattle.contest.specs.Difference.{FirstDifference, lost-there, differs, same-through}
 
 -- how a place fared in the round on a row; idle past the row
 abbrev pub fareAt : List Station → ℕ → Fared

@@ -24,6 +24,10 @@ pub mod Readable
 pub mod ThroughReads
 pub mod Waiting
 pub mod WaitingEnds
+pub mod RoundShows
+pub mod Seen
+pub mod SeenCounts
+pub mod SeenEnds
 pub mod Worked
 pub mod RowSettled
 pub mod RoundSettled

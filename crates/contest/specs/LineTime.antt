@@ -1,17 +1,17 @@
 -- What a round that is not turned away puts on the line: the winner's bits, in the sending windows, for every choice of good
 -- clocks; at most 101 words, and at most 14,438 µs of line time.
 use Prim.Native.Nat.{ℕ, _+_, _≤_}
-use mathlib.Core.Path.{_≡_, refl, sym, ap, _∙_}
-use mathlib.Core.Bool.{Bool, true, false, cond}
-use mathlib.Core.List.{List, [], _∷_, _++_, map}
+use mathlib.Core.Path.{_≡_, sym, ap, _∙_}
+use mathlib.Core.Bool.{true, false}
+use mathlib.Core.List.{List, [], _∷_, _++_}
 use native.Mathlib.Omega.{arith}
 use lib.ListN.{length, take, drop, length-append, length-drop}
 use lib.Seq.{take-append-seam}
 use Rattle.symbol.specs.Clocks.{Start}
 use Rattle.framing.specs.Writing.{mostWords}
 use Rattle.contest.specs.declared.Station.{Station}
-use Rattle.contest.specs.Contest.{entryOf, sumOf, roundOf}
-use Rattle.contest.specs.Calls.{round, taken, written, lentAfter}
+use Rattle.contest.specs.Contest.{sumOf, roundOf}
+use Rattle.contest.specs.Calls.{round, taken, lentAfter}
 use Rattle.contest.specs.RoundLaws.{Carried}
 use Rattle.contest.specs.ContestLaws.{carried-length}
 use Rattle.contest.specs.RowLaws.{winnerOf, goes-first, row-comes}

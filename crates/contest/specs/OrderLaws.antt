@@ -1,8 +1,8 @@
 -- `ahead` is document 01's sentence, and a strict order that is total on different messages.
-use mathlib.Core.Path.{_≡_, refl, sym, ap, _∙_}
+use mathlib.Core.Path.{_≡_, refl, ap}
 use mathlib.Core.Logic.{_⊎_, inl, inr, _≢_, _↔_}
 use mathlib.Core.Bool.{Bool, true, false}
-use mathlib.Core.List.{List, [], _∷_, _++_}
+use mathlib.Core.List.{[], _∷_, _++_}
 use Rattle.laws.specs.Tests.{never}
 use Rattle.contest.specs.Stations.{Bits}
 use Rattle.contest.specs.Order.{Ahead, hasZero, goesOn, ahead, sameBits}

@@ -1,11 +1,10 @@
 -- The places of a row: what waits at each, and that a message of the row waits at one of them.
-use Prim.Native.Nat.{ℕ, zero, suc, _+_, _-_, _≤_, _<_}
-use mathlib.Core.Path.{_≡_, refl, sym, ap, _∙_}
+use Prim.Native.Nat.{ℕ, zero, suc}
+use mathlib.Core.Path.{_≡_, refl, sym, _∙_}
 use mathlib.Core.Logic.{_≢_}
-use mathlib.Core.Bool.{Bool, true, false, cond, _&&_, _||_, or-true}
-use mathlib.Core.List.{List, [], _∷_, _++_, map}
-use native.Mathlib.Omega.{arith}
-use lib.ListN.{length, getD, set, length-append, length-map, length-replicate, List·getD-map}
+use mathlib.Core.Bool.{Bool, true, false, _&&_, _||_, or-true}
+use mathlib.Core.List.{List, [], _∷_}
+use lib.ListN.{length, getD, length-map, List·getD-map}
 use Rattle.laws.specs.Tests.{never}
 use Rattle.contest.specs.declared.Station.{Station}
 use Rattle.contest.specs.Stations.{Bits, bitsSent, stored, empty, waitingAt, blank}
@@ -58,7 +57,8 @@ unfolding among
 among-at m [] h = never h refl
 among-at m (x ∷ xs) h = go (sameBits m x) refl h (among-at m xs)
   where
-    go : (t : Bool) → sameBits m x ≡ t → (t || among m xs) ≡ true → (among m xs ≡ true → (i : ℕ) × (getD xs i [] ≡ m)) → (i : ℕ) × (getD (x ∷ xs) i [] ≡ m)
+    go : (t : Bool) → sameBits m x ≡ t → (t || among m xs) ≡ true → (among m xs ≡ true → (i : ℕ) × (getD xs i [] ≡ m))
+        → (i : ℕ) × (getD (x ∷ xs) i [] ≡ m)
     go true e h ih = (0, sym (same-true m x e))
     go false e h ih = let r = ih h in (suc (r .0), r .1)
 
@@ -68,6 +68,7 @@ unfolding allEmpty
 somebody [] h = never refl h
 somebody (s ∷ row) h = go (empty s) refl h (somebody row)
   where
-    go : (t : Bool) → empty s ≡ t → (t && allEmpty row) ≡ false → (allEmpty row ≡ false → (i : ℕ) × (empty (stationAt row i) ≡ false)) → (i : ℕ) × (empty (stationAt (s ∷ row) i) ≡ false)
+    go : (t : Bool) → empty s ≡ t → (t && allEmpty row) ≡ false → (allEmpty row ≡ false → (i : ℕ) × (empty (stationAt row i) ≡ false))
+        → (i : ℕ) × (empty (stationAt (s ∷ row) i) ≡ false)
     go true e h ih = let r = ih h in (suc (r .0), r .1)
     go false e h ih = (0, e)

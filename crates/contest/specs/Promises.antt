@@ -2,8 +2,8 @@
 -- at exit.
 use Prim.Native.Nat.{ℕ}
 use mathlib.Core.Path.{_≡_}
-use mathlib.Core.Bool.{Bool, cond}
-use mathlib.Core.List.{List, [], _∷_}
+use mathlib.Core.Bool.{cond}
+use mathlib.Core.List.{List}
 use lib.ListN.{length, replicate}
 use Rattle.symbol.specs.declared.Clock.{Clock}
 use Rattle.contest.specs.declared.Station.{Station}
@@ -14,7 +14,7 @@ use Rattle.contest.specs.declared.RoundTold.{RoundTold}
 use Rattle.contest.specs.declared.RoundAnswer.{RoundAnswer}
 use Rattle.contest.specs.Stations.{mostStations}
 use Rattle.contest.specs.Contest.{Round, roundOf, verdictOf, verdictsOf}
-use Rattle.contest.specs.Calls.{Call, load, withdraw, setClock, round, numberOf, taken, after, lentAfter}
+use Rattle.contest.specs.Calls.{load, withdraw, setClock, round, numberOf, taken, after, lentAfter}
 
 -- ## Loading, withdrawing and setting a clock
 

@@ -1,26 +1,25 @@
 -- Demand 3 "is about frames as demand 2's reader sees them": the words of a round, read from position 0, are a good frame with
 -- exactly the winner's bytes and check byte and no response, for every choice of good clocks.
-use Prim.Native.Nat.{ℕ, suc, _+_, _-_, _≤_}
+use Prim.Native.Nat.{ℕ, _+_, _-_, _≤_}
 use mathlib.Core.Path.{_≡_, refl, sym, ap, _∙_}
-use mathlib.Core.Bool.{Bool, true, false, cond}
+use mathlib.Core.Bool.{Bool, true, false}
 use mathlib.Core.List.{List, [], _∷_, _++_, append-nil}
 use native.Mathlib.Omega.{arith}
-use lib.ListN.{length, take, drop, length-take}
+use lib.ListN.{length, take, drop}
 use lib.Seq.{take-append-seam}
-use borrow.Author.Tests.{leb-true}
 use Rattle.symbol.specs.SendingLaws.{sending-inside, bitSymbol}
 use Rattle.symbol.specs.declared.Symbol.the-variants.{Sof}
 use Rattle.checkbyte.specs.Register.{checkOf, withCheck}
 use Rattle.checkbyte.specs.Differ.{Bytes}
 use Rattle.framing.specs.declared.Response.the-variants.{Without}
-use Rattle.framing.specs.Bits.{bytes, bitsOf}
+use Rattle.framing.specs.Bits.{bytes}
 use Rattle.framing.specs.ByteLaws.{bytes-back, with-bytes}
 use Rattle.framing.specs.WidthLaws.{with-check-length}
 use Rattle.framing.specs.Faults.{mostBytes}
 use Rattle.framing.specs.Reading.{good, reading}
 use Rattle.framing.specs.Waves.{Wave, still, pulse, bitSymbols, byteSymbols, FrameWave}
 use Rattle.framing.specs.Writing.{badMessage}
-use Rattle.framing.specs.Admitted.{Admitted, admitted}
+use Rattle.framing.specs.Admitted.{admitted}
 use Rattle.framing.specs.ReadBack.{reads-wave}
 use Rattle.contest.specs.declared.Station.{Station}
 use Rattle.contest.specs.Stations.{mostStored, Bits, bitsSent}
@@ -39,7 +38,8 @@ same-message m n hm hn e =
     sym (front m) ∙ ap (λ (bs : List ℕ). take (length bs - 1) bs) w ∙ front n
   where
     front : (m : List ℕ) → take (length (withCheck m) - 1) (withCheck m) ≡ m
-    front m = let k : length (withCheck m) - 1 ≡ length m = omega (arith, with-check-length m) in ap (λ (j : ℕ). take j (withCheck m)) k ∙ take-append-seam m (checkOf m ∷ [])
+    front m =
+        let k : length (withCheck m) - 1 ≡ length m = omega (arith, with-check-length m) in ap (λ (j : ℕ). take j (withCheck m)) k ∙ take-append-seam m (checkOf m ∷ [])
 
 -- ## A round's words are a wave
 

@@ -7,7 +7,7 @@ use Rattle.symbol.specs.declared.Symbol.the-variants.{Bit1}
 use Rattle.symbol.specs.Classes.{classOf}
 use Rattle.framing.specs.Line.{is}
 use Rattle.contest.specs.declared.Fared.{Fared}
-use Rattle.contest.specs.declared.Fared.the-variants.{Idle, Through, Lost}
+use Rattle.contest.specs.declared.Fared.the-variants.{Through, Lost}
 
 -- A bit that a station has to send, and the width that it asks for.
 pub record Pulse : Type 0 where

@@ -1,12 +1,12 @@
 -- A row of sound stations keeps the rules of a round, and what comes of the round is said in the stations' own bits.
-use Prim.Native.Nat.{ℕ, zero, suc, _+_, _*_, _≤_, min}
+use Prim.Native.Nat.{ℕ, _≤_}
 use mathlib.Core.Path.{_≡_, refl, sym, ap, ap₂, _∙_}
 use mathlib.Core.Logic.{_≢_}
-use mathlib.Core.Bool.{Bool, true, false, cond, not, _&&_}
-use mathlib.Core.List.{List, [], _∷_, _++_, map, nil≢cons}
+use mathlib.Core.Bool.{Bool, true, false, cond, not}
+use mathlib.Core.List.{List, [], _∷_, map, nil≢cons}
 use native.Mathlib.Omega.{arith}
 use lib.Dec.{leb}
-use lib.ListN.{length, take, length-take}
+use lib.ListN.{length, length-take}
 use borrow.Author.Tests.{leb-true}
 use Rattle.laws.specs.Tests.{both}
 use Rattle.symbol.specs.declared.Clock.{Clock}
@@ -21,12 +21,12 @@ use Rattle.contest.specs.declared.Station.{Station}
 use Rattle.contest.specs.declared.Fared.{Fared}
 use Rattle.contest.specs.declared.Fared.the-variants.{Idle}
 use Rattle.contest.specs.Stations.{mostStored, Bits, bitsSent, stored, empty, waitingAt, sound}
-use Rattle.contest.specs.Round.{Pulse, Seat, on, mostBits, Course, asked, play}
-use Rattle.contest.specs.Contest.{Entry, absent, pulsesOf, holder, entryOf, seatOf, Round, contestOf, roundOf}
+use Rattle.contest.specs.Round.{mostBits, asked, play}
+use Rattle.contest.specs.Contest.{absent, pulsesOf, holder, entryOf, seatOf, roundOf}
 use Rattle.contest.specs.Calls.{allSound}
 use Rattle.contest.specs.Histories.{waiting}
 use Rattle.contest.specs.First.{first}
-use Rattle.contest.specs.RoundLaws.{bitsIn, bitsAt, Fair, against, fareOf, Runs, plays-out}
+use Rattle.contest.specs.RoundLaws.{bitsIn, bitsAt, Fair, against, fareOf, plays-out}
 use Rattle.contest.specs.ContestLaws.{Keeps, KeepAll, goesOut, all-fair, goes-short, Comes, comes}
 
 -- ## A message's bits
@@ -130,4 +130,5 @@ module _ (row : List Station) (h : allSound row ≡ true) where
 
   -- "The round is over when every remaining station has sent its check byte": 96 bits are enough for that.
   pub row-finishes : asked (play mostBits false 1 (map seatOf (map entryOf row)) .seats) ≡ []
-  row-finishes = plays-out mostBits 1 false (map seatOf (map entryOf row)) (all-fair (map entryOf row) (keeps row h)) (goes-short (map entryOf row) (keeps row h)) .finished
+  row-finishes =
+      plays-out mostBits 1 false (map seatOf (map entryOf row)) (all-fair (map entryOf row) (keeps row h)) (goes-short (map entryOf row) (keeps row h)) .finished

@@ -1,26 +1,25 @@
 -- How long a message waits, over any history of calls, each taken or turned away: one call at a time, then all of them.
-use Prim.Native.Nat.{ℕ, zero, suc, _+_, _≤_, _<_}
+use Prim.Native.Nat.{ℕ, _+_, _≤_}
 use mathlib.Core.Path.{_≡_, refl, sym, ap, _∙_}
-use mathlib.Core.Logic.{_⊎_, inl, inr, _≢_}
-use mathlib.Core.Bool.{Bool, true, false, cond, _&&_}
+use mathlib.Core.Logic.{_≢_}
+use mathlib.Core.Bool.{Bool, true, false}
 use mathlib.Core.List.{List, [], _∷_, _++_}
 use native.Mathlib.Omega.{arith}
 use lib.Dec.{eqb}
-use lib.ListN.{length, getD, set}
-use lib.Seq.{getD-set-same, getD-set-other}
-use borrow.Author.Tests.{eq-eqb, eqb-true, eqb-false}
+use lib.ListN.{getD, set}
+use lib.Seq.{getD-set-other}
+use borrow.Author.Tests.{eqb-true, eqb-false}
 use Rattle.laws.specs.Tests.{never}
 use Rattle.symbol.specs.declared.Clock.{Clock}
 use Rattle.contest.specs.declared.Station.{Station}
-use Rattle.contest.specs.Stations.{Bits, bitsSent, empty, waitingAt, blank}
-use Rattle.contest.specs.Order.{ahead}
+use Rattle.contest.specs.Stations.{Bits, bitsSent, blank}
 use Rattle.contest.specs.OrderLaws.{ahead-differs, different-same}
 use Rattle.contest.specs.Calls.{Call, load, withdraw, setClock, round, taken, after}
-use Rattle.contest.specs.Histories.{afterAll, waiting, among, differentAhead, counted, asRound, asLoadAhead, roundsIn, loadsAhead, disturbs, Undisturbed, takesBack, NotWithdrawn}
+use Rattle.contest.specs.Histories.{afterAll, waiting, differentAhead, counted, asRound, asLoadAhead, roundsIn, loadsAhead, disturbs, Undisturbed}
 use Rattle.contest.specs.First.{first-among}
 use Rattle.contest.specs.RowLaws.{winnerOf}
 use Rattle.contest.specs.Places.{waiting-at, empty-none, at-among}
-use Rattle.contest.specs.Taken.{LoadTaken, load-taken}
+use Rattle.contest.specs.Taken.{load-taken}
 use Rattle.contest.specs.Counting.{without-at, Turn, goesNow, waitsOn, turn, set-count, unset-count}
 use Rattle.contest.specs.CallLaws.{load-waiting, withdraw-waiting, clock-waiting, round-waiting, away-same}
 
@@ -48,11 +47,17 @@ module _ (s : ℕ) (m : Bits) (some : m ≢ []) (row : List Station) (h : WaitsA
   step-away : (c : Call) → taken c row ≡ false → Step s m c row
   step-away c e = stays (rw (away-same c row e) h) (rw (away-same c row e, e) (omega arith)) (λ d. rw (away-same c row e, e) (omega arith))
 
+  -- a loading goes to an empty place, which is another one
+  elsewhere : (i : ℕ) (x : List ℕ) → taken (load i x) row ≡ true → s ≢ i
+  elsewhere i x t q =
+      let free : getD (waiting row) i [] ≡ [] = waiting-at row i ∙ empty-none (getD row i blank) (load-taken i x row t .free) in
+      some (sym h ∙ ap (λ (j : ℕ). getD (waiting row) j []) q ∙ free)
+
   step-load : (i : ℕ) (x : List ℕ) → taken (load i x) row ≡ true → Step s m (load i x) row
   step-load i x t =
       let w = load-waiting row i x t in
       stays
-      (rw w (getD-set-other (waiting row) i s (bitsSent x) [] (λ q. some (sym h ∙ ap (λ (j : ℕ). getD (waiting row) j []) q ∙ waiting-at row i ∙ empty-none (getD row i blank) (load-taken i x row t .free))) ∙ h))
+      (rw w (getD-set-other (waiting row) i s (bitsSent x) [] (elsewhere i x t) ∙ h))
       (rw (w, t) (omega (arith, set-count m (waiting row) i (bitsSent x))))
       (λ d. never t d)
 
@@ -120,7 +125,8 @@ pub record TakenBack (s : ℕ) (m : Bits) (calls : List Call) (row : List Statio
 pub data Fate (s : ℕ) (m : Bits) (calls : List Call) (row : List Station) : Type 0 where
   out : GoesOut s m calls row → Fate s m calls row
   withdrawn : TakenBack s m calls row → Fate s m calls row
-  waits : WaitsAt s m (afterAll calls row) → roundsIn calls row + aheadNow m (afterAll calls row) ≤ aheadNow m row + loadsAhead m calls row → Fate s m calls row
+  waits : WaitsAt s m (afterAll calls row) → roundsIn calls row + aheadNow m (afterAll calls row) ≤ aheadNow m row + loadsAhead m calls row
+      → Fate s m calls row
 
 -- What becomes of a message over any history: it goes out in time, or is withdrawn, or still waits and is in time.
 pub fate : (s : ℕ) (m : Bits) → m ≢ [] → (calls : List Call) (row : List Station) → WaitsAt s m row → Fate s m calls row

@@ -1,13 +1,12 @@
 -- Demand 3: waiting ends. A message that is loaded and not withdrawn goes out, whole and readable, no later than round
 -- 1 + A + L from its loading; with no loading or withdrawal in exactly round A + 1.
-use Prim.Native.Nat.{ℕ, suc, _+_, _≤_, _<_}
-use mathlib.Core.Path.{_≡_, refl, sym, ap, _∙_}
-use mathlib.Core.Logic.{_≢_}
+use Prim.Native.Nat.{ℕ, _+_, _≤_}
+use mathlib.Core.Path.{_≡_, refl, sym, _∙_}
 use mathlib.Core.Bool.{Bool, true, false, cond, _&&_}
 use mathlib.Core.List.{List, [], _∷_, _++_}
 use native.Mathlib.Omega.{arith}
 use lib.Dec.{eqb}
-use lib.ListN.{length, getD, set}
+use lib.ListN.{length}
 use lib.Seq.{getD-set-same}
 use borrow.Author.Tests.{eq-eqb}
 use Rattle.laws.specs.Tests.{never}
@@ -40,7 +39,8 @@ use Rattle.contest.specs.Waiting.{WaitsAt, aheadNow, GoesOut, TakenBack,
 pub record Sent (s : ℕ) (x : List ℕ) (lent : List ℕ) (row : List Station) : Type 0 where
   pub through : fareAt row s ≡ Through
   -- whole and readable: x is what demand 2's reader finds in the lent words afterwards
-  pub readable : (bytesLent : ℕ) → mostBytes ≤ bytesLent → reading (lentAfter row lent) 0 bytesLent ≡ good (withCheck x) [] Without 0 (2 + length (bitsSent x))
+  pub readable : (bytesLent : ℕ) → mostBytes ≤ bytesLent
+      → reading (lentAfter row lent) 0 bytesLent ≡ good (withCheck x) [] Without 0 (2 + length (bitsSent x))
   -- "No round takes more than 14,438 µs of line time"
   pub time : roundOf row .lineTime + 300 ≡ sumOf (roundOf row .words)
   pub bound : roundOf row .lineTime ≤ 14438
@@ -56,12 +56,14 @@ sent s x lent row b lo hi t h w =
       readable = round-reads lent row t x w b lo hi;
       time = l .time;
       bound = l .bound;
-      emptied = sym (waiting-at (after (round lent) row) s) ∙ rw (round-waiting lent row t) (without-at s (winnerOf row) (waiting row) ∙ rw (h, w, same-refl (bitsSent x)));
+      emptied =
+          sym (waiting-at (after (round lent) row) s) ∙ rw (round-waiting lent row t) (without-at s (winnerOf row) (waiting row) ∙ rw (h, w, same-refl (bitsSent x)));
     }
 
 -- ## Histories in which nothing is withdrawn, or nothing disturbs
 
-kept : (s : ℕ) (before later : List Call) (row : List Station) → NotWithdrawn s (before ++ (withdraw s ∷ later)) row → taken (withdraw s) (afterAll before row) ≡ true → ⊥
+kept : (s : ℕ) (before later : List Call) (row : List Station) → NotWithdrawn s (before ++ (withdraw s ∷ later)) row
+    → taken (withdraw s) (afterAll before row) ≡ true → ⊥
 unfolding afterAll
 kept s [] later row n t = never (rw (eq-eqb s s refl) t) (n .0)
 kept s (c ∷ before) later row n t = kept s before later (after c row) (n .1) t
@@ -115,7 +117,8 @@ pub record GoesOutInTime (s : ℕ) (x : List ℕ) (row : List Station) (calls : 
 pub data Outcome (s : ℕ) (x : List ℕ) (row : List Station) (calls : List Call) : Type 0 where
   goesOut : GoesOutInTime s x row calls → Outcome s x row calls
   isWithdrawn : TakenBack s (bitsSent x) calls (after (load s x) row) → Outcome s x row calls
-  stillWaits : WaitsAt s (bitsSent x) (afterAll calls (after (load s x) row)) → roundsIn calls (after (load s x) row) ≤ aheadIn row x + loadsAhead (bitsSent x) calls (after (load s x) row) → Outcome s x row calls
+  stillWaits : WaitsAt s (bitsSent x) (afterAll calls (after (load s x) row))
+      → roundsIn calls (after (load s x) row) ≤ aheadIn row x + loadsAhead (bitsSent x) calls (after (load s x) row) → Outcome s x row calls
 
 module _ (s : ℕ) (x : List ℕ) (row : List Station) (b : Bytes x) (t : taken (load s x) row ≡ true) where
   ok : LoadTaken s x row

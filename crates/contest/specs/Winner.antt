@@ -1,26 +1,26 @@
 -- Who goes out, and where each of the others stops. The winner of a round is the message that is ahead of all others that
 -- wait; exactly its holders get through; every other holder loses at the first difference from it.
-use Prim.Native.Nat.{ℕ, zero, suc, _+_, _-_, _≤_}
+use Prim.Native.Nat.{ℕ, zero, suc, _-_}
 use mathlib.Core.Path.{_≡_, refl, sym, ap, _∙_}
-use mathlib.Core.Logic.{_≢_, _↔_, _⊎_, inl, inr}
-use mathlib.Core.Bool.{Bool, true, false}
+use mathlib.Core.Logic.{_≢_, _↔_}
+use mathlib.Core.Bool.{true, false}
 use mathlib.Core.List.{List, [], _∷_, _++_, map}
 use native.Mathlib.Omega.{arith}
-use lib.ListN.{length, getD, replicate, length-append, length-map, length-replicate, List·getD-map}
+use lib.ListN.{length, getD, replicate, length-append, length-map, length-replicate}
 use Rattle.laws.specs.Tests.{never}
 use Rattle.contest.specs.declared.Station.{Station}
 use Rattle.contest.specs.declared.Fared.{Fared}
 use Rattle.contest.specs.declared.Fared.the-variants.{Idle, Through, Lost}
 use Rattle.contest.specs.declared.Verdict.{Verdict}
 use Rattle.contest.specs.Stations.{mostStations, Bits, empty, waitingAt}
-use Rattle.contest.specs.Order.{Ahead, ahead}
+use Rattle.contest.specs.Order.{Ahead}
 use Rattle.contest.specs.OrderLaws.{ahead-is, ahead-differs}
 use Rattle.contest.specs.Contest.{roundOf, verdictOf, verdictsOf}
 use Rattle.contest.specs.Calls.{round, taken, allSound, allEmpty}
 use Rattle.contest.specs.Histories.{waiting}
 use Rattle.contest.specs.First.{first-among}
 use Rattle.contest.specs.RowLaws.{winnerOf, faresAgainst, row-fares}
-use Rattle.contest.specs.Taken.{RoundTaken, round-taken}
+use Rattle.contest.specs.Taken.{round-taken}
 use Rattle.contest.specs.Places.{stationAt, waiting-at, empty-none, some-holder, among-at}
 use Rattle.contest.specs.Difference.{FirstDifference, lost-there}
 use Rattle.contest.specs.Fates.{fareAt, winner-some, Fate, isIdle, isThrough, isLost, fate, holder-fares}
@@ -50,7 +50,8 @@ through-lost : {A : Type 0} {f : Fared} {k : ℕ} → f ≡ Through → f ≡ Lo
 through-lost p q = let z : _≡_ {A = ℕ} 0 1 = cc in absurd (omega arith)
 
 module _ (row : List Station) (sound : allSound row ≡ true) (some : allEmpty row ≡ false) where
-  leads-at : (i : ℕ) → Fate row sound some i → empty (stationAt row i) ≡ false → waitingAt (stationAt row i) ≢ winnerOf row → Ahead (winnerOf row) (waitingAt (stationAt row i))
+  leads-at : (i : ℕ) → Fate row sound some i → empty (stationAt row i) ≡ false → waitingAt (stationAt row i) ≢ winnerOf row
+      → Ahead (winnerOf row) (waitingAt (stationAt row i))
   leads-at i (isIdle e f) h n = never e h
   leads-at i (isThrough e q f) h n = absurd (n q)
   leads-at i (isLost e a d f) h n = ahead-is (winnerOf row) (waitingAt (stationAt row i)) .0 a
@@ -65,7 +66,8 @@ module _ (row : List Station) (sound : allSound row ≡ true) (some : allEmpty r
   idle-at i (isThrough e q f) = (λ g. idle-through g f, λ g. never g e)
   idle-at i (isLost e a d f) = (λ g. idle-lost g f, λ g. never g e)
 
-  lost-at : (i k : ℕ) → Fate row sound some i → (fareAt row i ≡ Lost k) ↔ ((empty (stationAt row i) ≡ false) × FirstDifference (winnerOf row) (waitingAt (stationAt row i)) k)
+  lost-at : (i k : ℕ) → Fate row sound some i
+      → (fareAt row i ≡ Lost k) ↔ ((empty (stationAt row i) ≡ false) × FirstDifference (winnerOf row) (waitingAt (stationAt row i)) k)
   lost-at i k (isIdle e f) = (λ g. idle-lost f g, λ g. never e (g .0))
   lost-at i k (isThrough e q f) = (λ g. through-lost f g, λ g. holder-fares row sound some i e ∙ lost-there (g .1))
   lost-at i k (isLost {k = j} e a d f) =
@@ -96,7 +98,8 @@ wins-once a b = sym (a .its-bits) ∙ b .through (a .holder) .0 (a .through (a .
 -- bit where the winner's bits differ from its own, or one past its last bit.
 pub loses : (lent : List ℕ) (row : List Station) → taken (round lent) row ≡ true → (i k : ℕ)
     → (fareAt row i ≡ Lost k) ↔ ((empty (stationAt row i) ≡ false) × FirstDifference (winnerOf row) (waitingAt (stationAt row i)) k)
-loses lent row t i k = let r = round-taken lent row t in lost-at row (r .passed .sound) (r .somebody) i k (fate row (r .passed .sound) (r .somebody) i)
+loses lent row t i k =
+    let r = round-taken lent row t in lost-at row (r .passed .sound) (r .somebody) i k (fate row (r .passed .sound) (r .somebody) i)
 
 -- ## The verdicts
 
@@ -120,4 +123,10 @@ verdicts-32 lent row t =
     let r = (round-taken lent row t) .passed in
     let fs = roundOf row .fares in
     let n : length fs ≡ length row = ap length (row-fares row (r .sound)) ∙ length-map row (faresAgainst (winnerOf row)) in
-    omega (arith, length-append (map verdictOf fs) (replicate (mostStations - length fs) (verdictOf Idle)), length-map fs verdictOf, length-replicate (mostStations - length fs) (verdictOf Idle), r .few)
+    let pad : List Verdict = replicate (mostStations - length fs) (verdictOf Idle) in
+    omega (
+      arith,
+      length-append (map verdictOf fs) pad,
+      length-map fs verdictOf,
+      length-replicate (mostStations - length fs) (verdictOf Idle),
+    )

@@ -3,20 +3,22 @@
 use Prim.Native.Nat.{ℕ, _-_}
 use mathlib.Core.Path.{_≡_, refl}
 use mathlib.Core.Bool.{Bool, true, false, _&&_}
-use mathlib.Core.List.{List, [], _∷_, _++_}
+use mathlib.Core.List.{List, [], _∷_, _++_, map}
 use lib.Dec.{eqb}
 use lib.ListN.{length, replicate}
 use Rattle.symbol.specs.declared.Clock.{Clock}
 use Rattle.symbol.specs.Classes.{classOf}
-use Rattle.symbol.specs.Clocks.{nominalClock}
+use Rattle.symbol.specs.Clocks.{goodOf, nominalClock}
 use Rattle.checkbyte.specs.Register.{checkOf, registerFrom, stepOf}
 use Rattle.framing.specs.Bits.{bitsOf}
 use Rattle.contest.specs.declared.Station.{Station}
 use Rattle.contest.specs.declared.Fared.{Fared}
 use Rattle.contest.specs.declared.Fared.the-variants.{Idle, Through, Lost}
-use Rattle.contest.specs.Stations.{mostStored}
+use Rattle.contest.specs.Stations.{mostStored, blank}
 use Rattle.contest.specs.Round.{asked, shortest, longest, onLine, play}
-use Rattle.contest.specs.Contest.{pulsesOf, sofsAsked, sumOf, contestOf, roundOf}
+use Rattle.contest.specs.Contest.{pulsesOf, sofsAsked, sumOf, contestOf, roundOf, afterFares}
+use Rattle.contest.specs.Calls.{load, round, allSound, allEmpty, numberOf, taken, done, after}
+use Rattle.contest.specs.Histories.{afterAll}
 
 -- a station that holds a message
 abbrev pub holds : Clock → List ℕ → Station
@@ -54,3 +56,50 @@ short-against-long = refl
 pub ones-against-zeros : losesAt (holds nominalClock (0xFF ∷ [])) (holds nominalClock (0x00 ∷ [])) 1 ≡ true
 unfolding losesAt roundOf contestOf play asked shortest longest onLine classOf pulsesOf sofsAsked sumOf bitsOf checkOf registerFrom stepOf
 ones-against-zeros = refl
+
+-- ## Cases that are not starred
+
+-- which places a round lets through
+unfoldable pub goOut : List Station → List Bool
+goOut row = map isThrough (roundOf row .fares)
+  where
+    isThrough : Fared → Bool
+    isThrough Idle = false
+    isThrough Through = true
+    isThrough (Lost k) = false
+
+abbrev pub words : List ℕ
+words = replicate 101 0
+
+abbrev pub three : List Station
+three = holds nominalClock (0x00 ∷ []) ∷ holds nominalClock (0xFF ∷ []) ∷ holds nominalClock (0xFF ∷ 0xFF ∷ []) ∷ []
+
+-- "00, FF, FF FF all waiting: out in rounds 1, 3, 2."
+pub first-out : goOut three ≡ true ∷ false ∷ false ∷ []
+unfolding goOut roundOf contestOf play asked shortest longest onLine classOf pulsesOf sofsAsked sumOf bitsOf checkOf registerFrom stepOf
+first-out = refl
+
+pub second-out : goOut (afterAll (round words ∷ []) three) ≡ false ∷ false ∷ true ∷ []
+unfolding goOut afterAll after taken numberOf done afterFares allSound allEmpty goodOf roundOf contestOf play asked shortest longest onLine classOf pulsesOf sofsAsked sumOf bitsOf checkOf registerFrom stepOf
+second-out = refl
+
+pub third-out : goOut (afterAll (round words ∷ round words ∷ []) three) ≡ false ∷ true ∷ false ∷ []
+unfolding goOut afterAll after taken numberOf done afterFares allSound allEmpty goodOf roundOf contestOf play asked shortest longest onLine classOf pulsesOf sofsAsked sumOf bitsOf checkOf registerFrom stepOf
+third-out = refl
+
+-- "11 bytes are taken, 12 refused with 37. 101 words are enough, 100 give 32."
+pub eleven-taken : numberOf (load 0 (replicate 11 0xFF)) (blank ∷ []) ≡ 0
+unfolding numberOf allSound goodOf
+eleven-taken = refl
+
+pub twelve-refused : numberOf (load 0 (replicate 12 0xFF)) (blank ∷ []) ≡ 37
+unfolding numberOf allSound goodOf
+twelve-refused = refl
+
+pub words-enough : numberOf (round (replicate 101 0)) three ≡ 0
+unfolding numberOf allSound allEmpty goodOf
+words-enough = refl
+
+pub words-short : numberOf (round (replicate 100 0)) three ≡ 32
+unfolding numberOf allSound allEmpty goodOf
+words-short = refl
