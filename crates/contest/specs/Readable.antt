@@ -13,7 +13,8 @@ use Rattle.checkbyte.specs.Register.{checkOf, withCheck}
 use Rattle.checkbyte.specs.Differ.{Bytes}
 use Rattle.framing.specs.declared.Response.the-variants.{Without}
 use Rattle.framing.specs.Bits.{bytes}
-use Rattle.framing.specs.ByteLaws.{bytes-back, with-length, with-bytes}
+use Rattle.framing.specs.ByteLaws.{bytes-back, with-bytes}
+use Rattle.framing.specs.WidthLaws.{with-check-length}
 use Rattle.framing.specs.Faults.{mostBytes}
 use Rattle.framing.specs.Reading.{good, reading}
 use Rattle.framing.specs.Waves.{Wave, still, pulse, bitSymbols, byteSymbols, FrameWave}
@@ -38,7 +39,7 @@ same-message m n hm hn e =
   where
     front : (m : List ℕ) → take (length (withCheck m) - 1) (withCheck m) ≡ m
     front m =
-        let k : length (withCheck m) - 1 ≡ length m = omega (arith, with-length m) in ap (λ (j : ℕ). take j (withCheck m)) k ∙ take-append-seam m (checkOf m ∷ [])
+        let k : length (withCheck m) - 1 ≡ length m = omega (arith, with-check-length m) in ap (λ (j : ℕ). take j (withCheck m)) k ∙ take-append-seam m (checkOf m ∷ [])
 
 -- ## A round's words are a wave
 
@@ -62,7 +63,7 @@ round-wave row x l e =
     }
 
 fits : (x : List ℕ) → 1 ≤ length x → length x ≤ mostStored → badMessage x Without [] ≡ false
-fits x lo hi = admitted x Without [] .1 (record { some-main = lo; some-response = tt; at-most = omega (arith, with-length x) })
+fits x lo hi = admitted x Without [] .1 (record { some-main = lo; some-response = tt; at-most = omega (arith, with-check-length x) })
 
 -- READ-BACK. The words of a round that is not turned away, as they stand first in the lent words, are read from position 0 as
 -- the winner's message: a good frame, its bytes and its check byte, no response, opened at 0, the next position at the closing end.

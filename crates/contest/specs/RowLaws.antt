@@ -15,7 +15,8 @@ use Rattle.symbol.specs.Sending.{SendingWindow, bitWidth}
 use Rattle.symbol.specs.SendingLaws.{Good, good, bitSymbol}
 use Rattle.checkbyte.specs.Register.{withCheck}
 use Rattle.framing.specs.Bits.{bitsOf}
-use Rattle.framing.specs.ByteLaws.{bits-length, with-length}
+use Rattle.framing.specs.ByteLaws.{bits-length}
+use Rattle.framing.specs.WidthLaws.{with-check-length}
 use Rattle.contest.specs.declared.Station.{Station}
 use Rattle.contest.specs.declared.Fared.{Fared}
 use Rattle.contest.specs.declared.Fared.the-variants.{Idle}
@@ -32,7 +33,7 @@ use Rattle.contest.specs.ContestLaws.{Keeps, KeepAll, goesOut, all-fair,
 
 -- A message of at most 11 bytes has at most 96 bits with its check byte.
 pub sent-short : (m : List ℕ) → length m ≤ mostStored → length (bitsSent m) ≤ mostBits
-sent-short m h = omega (arith, bits-length (withCheck m), with-length m)
+sent-short m h = omega (arith, bits-length (withCheck m), with-check-length m)
 
 -- Every message has bits to send, if only those of its check byte.
 pub sent-some : (m : List ℕ) → bitsSent m ≢ []

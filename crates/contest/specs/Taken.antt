@@ -13,7 +13,7 @@ use Rattle.symbol.specs.declared.Clock.{Clock}
 use Rattle.symbol.specs.Clocks.{goodOf}
 use Rattle.checkbyte.specs.Register.{withCheck}
 use Rattle.framing.specs.declared.Response.the-variants.{Without}
-use Rattle.framing.specs.ByteLaws.{with-length}
+use Rattle.framing.specs.WidthLaws.{with-check-length}
 use Rattle.framing.specs.Faults.{mostBytes}
 use Rattle.framing.specs.Writing.{mostWords}
 use Rattle.framing.specs.Writing as writer
@@ -160,7 +160,7 @@ round-taken lent row e =
 -- 37 is one rule: the bench refuses the messages that the writer refuses without a response.
 pub same-37 : (m : List ℕ) → badMessage m ≡ writer.badMessage m Without []
 unfolding writer.badMessage
-same-37 m = ap (λ (t : Bool). eqb (length m) 0 || t) (over (length m) (length (withCheck m) + 0) (omega (arith, with-length m)))
+same-37 m = ap (λ (t : Bool). eqb (length m) 0 || t) (over (length m) (length (withCheck m) + 0) (omega (arith, with-check-length m)))
   where
     over : (n k : ℕ) → k ≡ n + 1 → ltb mostStored n ≡ ltb mostBytes k
     over n k e = go (ltb mostStored n) refl

@@ -1,14 +1,14 @@
 -- Which messages the writer takes, in words: the rule of 37 turned round.
 use Prim.Native.Nat.{ℕ, _+_, _≤_}
 use mathlib.Core.Path.{_≡_, refl}
-use mathlib.Core.Bool.{Bool, true, false, _||_}
+use mathlib.Core.Bool.{false, _||_}
 use mathlib.Core.List.{List}
 use mathlib.Core.Logic.{_↔_}
 use native.Mathlib.Omega.{arith}
 use lib.Dec.{eqb, ltb}
 use lib.ListN.{length}
 use borrow.Author.Tests.{eqb-false, ltb-false, ne-eqb, le-ltb}
-use Rattle.laws.specs.Tests.{never}
+use Rattle.laws.specs.Tests.{neither}
 use Rattle.checkbyte.specs.Register.{withCheck}
 use Rattle.framing.specs.declared.Response.{Response}
 use Rattle.framing.specs.declared.Response.the-variants.{Without, Plain, Checked}
@@ -26,10 +26,6 @@ pub record Admitted (main : List ℕ) (kind : Response) (rs : List ℕ) : Type 0
   pub some-main : 1 ≤ length main
   pub some-response : SomeResponse kind rs
   pub at-most : length (withCheck main) + length (responseSent kind rs) ≤ mostBytes
-
-neither : (a b : Bool) → (a || b) ≡ false → (a ≡ false) × (b ≡ false)
-neither true b e = never refl e
-neither false b e = (refl, e)
 
 some : (n : ℕ) → eqb n 0 ≡ false → 1 ≤ n
 some n e = let h : ¬ (n ≡ 0) = eqb-false n 0 e in omega arith

@@ -53,13 +53,13 @@ record Message (st : Standing) : Type 0 where
   main-back : withCheck (mainOf st) ≡ mainBytes st
   response-back : responseSent (facts st .answered) (responseOf st) ≡ responseBytes st
 
--- a complete main part: its bytes are the message with its check byte, and its bits are theirs
-record Main (m : List Bool) : Type 0 where
+-- a complete part that has a check byte: its bytes are those before the check byte with their check, and its bits are theirs
+record Sealed (m : List Bool) : Type 0 where
   back : withCheck (withoutCheck (bytes m)) ≡ bytes m
   bits : bitsOf (bytes m) ≡ m
   some : 1 ≤ length (withoutCheck (bytes m))
 
-sealed : (st : Standing) → Complete st → facts st .hasCheck ≡ true → facts st .fewest ≡ 2 → Main (facts st .part)
+sealed : (st : Standing) → Complete st → facts st .hasCheck ≡ true → facts st .fewest ≡ 2 → Sealed (facts st .part)
 sealed st c h f =
     let two : 2 ≤ length (bytes (facts st .part)) = rw f at (c .enough) in
     record {
@@ -71,7 +71,7 @@ sealed st c h f =
 main-message : (m : List Bool) → Complete (inMain m) → length (bytes m) ≤ mostBytes → Message (inMain m)
 unfolding bytes
 main-message m c l =
-    let s : Main m = sealed (inMain m) c refl refl in
+    let s : Sealed m = sealed (inMain m) c refl refl in
     record {
       admits = record { some-main = s .some; some-response = tt; at-most = rw (s .back) (omega arith) };
       puts = rw (s .back, s .bits) (ap (λ (x : List Symbol). Sof ∷ x) (sym (append-nil (bitSymbols m))));
@@ -81,7 +81,7 @@ main-message m c l =
 
 plain-message : (m r : List Bool) → Complete (inMain m) → Complete (inResponse plain m r) → length (bytes m) + length (bytes r) ≤ mostBytes → Message (inResponse plain m r)
 plain-message m r c d l =
-    let s : Main m = sealed (inMain m) c refl refl in
+    let s : Sealed m = sealed (inMain m) c refl refl in
     record {
       admits = record { some-main = s .some; some-response = d .enough; at-most = rw (s .back) l };
       puts = rw (s .back, s .bits, bits-back r (d .whole-bytes));
@@ -91,8 +91,8 @@ plain-message m r c d l =
 
 checked-message : (m r : List Bool) → Complete (inMain m) → Complete (inResponse checked m r) → length (bytes m) + length (bytes r) ≤ mostBytes → Message (inResponse checked m r)
 checked-message m r c d l =
-    let s : Main m = sealed (inMain m) c refl refl in
-    let t : Main r = sealed (inResponse checked m r) d refl refl in
+    let s : Sealed m = sealed (inMain m) c refl refl in
+    let t : Sealed r = sealed (inResponse checked m r) d refl refl in
     record {
       admits = record { some-main = s .some; some-response = t .some; at-most = rw (s .back, t .back) l };
       puts = rw (s .back, t .back, s .bits, t .bits);

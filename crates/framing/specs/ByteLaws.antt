@@ -1,11 +1,11 @@
 -- Bytes as bits and back: nothing is lost either way.
-use Prim.Native.Nat.{ℕ, suc, _+_, _-_, _*_, _/_, _%_, _≤_, _<_}
+use Prim.Native.Nat.{ℕ, suc, _-_, _*_, _/_, _%_, _≤_, _<_}
 use mathlib.Core.Path.{_≡_, refl, sym, ap, ap₂, _∙_}
 use mathlib.Core.Bool.{Bool, true, false}
 use mathlib.Core.List.{List, [], _∷_, _++_}
 use native.Mathlib.Omega.{arith}
 use lib.Dec.{eqb, eqb→eq}
-use lib.ListN.{length, getD, take, length-append}
+use lib.ListN.{length, getD, take}
 use lib.Seq.{take-suc, take-length}
 use borrow.Author.Tests.{eqb-true, eq-eqb}
 use Rattle.laws.specs.Each.{each}
@@ -113,9 +113,6 @@ bytes-made (a ∷ b ∷ c ∷ d ∷ e ∷ f ∷ g ∷ h ∷ rest) = (small, byte
 -- the bytes without the last one, which is their check byte
 abbrev pub withoutCheck : List ℕ → List ℕ
 withoutCheck bs = take (length bs - 1) bs
-
-pub with-length : (bs : List ℕ) → length (withCheck bs) ≡ length bs + 1
-with-length bs = length-append bs (checkOf bs ∷ [])
 
 -- A check byte that is put behind bytes is right.
 pub with-checks : (bs : List ℕ) → checksOut (withCheck bs) ≡ true

@@ -8,6 +8,7 @@ pub mod Writing
 pub mod FirstLaws
 pub mod BitLaws
 pub mod StandingLaws
+pub mod WidthLaws
 pub mod Refusals
 pub mod Meant
 pub mod Rows
@@ -33,4 +34,5 @@ pub mod Spelled
 pub mod Nominal
 pub mod Again
 pub mod RoundTrip
+pub mod TwoCalls
 pub mod WorkedReading

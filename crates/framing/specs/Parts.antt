@@ -20,9 +20,10 @@ use Rattle.framing.specs.Line.{is, shuts}
 use Rattle.framing.specs.Standing.{Kind, plain, checked, Standing, inMain, inResponse}
 use Rattle.framing.specs.Faults.{facts, partBytes, mostBytes, checksOut, whole, fault}
 use Rattle.framing.specs.StandingLaws.{after}
+use Rattle.framing.specs.WidthLaws.{with-check-length}
 use Rattle.framing.specs.Meant.{shutting, stable-equal}
 use Rattle.framing.specs.RowLaws.{no-fault-is}
-use Rattle.framing.specs.ByteLaws.{bytes-few, bytes-back, bits-length, with-length, with-checks, with-bytes}
+use Rattle.framing.specs.ByteLaws.{bytes-few, bytes-back, bits-length, with-checks, with-bytes}
 use Rattle.framing.specs.Waves.{bitSymbols}
 use Rattle.framing.specs.Passing.{Passes, stay, pass}
 
@@ -151,7 +152,7 @@ shut-complete st s e f =
 -- Bytes with their check byte are complete, in any part that has one.
 pub sealed-complete : (bs : List ℕ) (st : Standing) → Bytes bs → 1 ≤ length bs → facts st .part ≡ bitsOf (withCheck bs) → facts st .fewest ≤ 2 → Complete st
 sealed-complete bs st b h p f =
-    let n : length (withCheck bs) ≡ length bs + 1 = with-length bs in
+    let n : length (withCheck bs) ≡ length bs + 1 = with-check-length bs in
     let back : bytes (bitsOf (withCheck bs)) ≡ withCheck bs = bytes-back (withCheck bs) (with-bytes bs b) in
     record {
       whole-bytes = rw p (omega (arith, bits-length (withCheck bs)));

@@ -8,6 +8,7 @@ use native.Mathlib.Omega.{arith}
 use lib.ListN.{length, getD, length-append}
 use borrow.Author.Tests.{eq-eqb, ne-eqb, le-leb}
 use Rattle.symbol.specs.declared.Symbol.the-variants.{Eod}
+use Rattle.symbol.specs.Clocks.{nominalClock}
 use Rattle.symbol.specs.Classes.{endOf}
 use Rattle.checkbyte.specs.Register.{withCheck}
 use Rattle.checkbyte.specs.Differ.{Bytes}
@@ -19,6 +20,7 @@ use Rattle.framing.specs.Standing.{plain, checked, Standing, atSof, inMa
 use Rattle.framing.specs.Faults.{facts, mainBytes, responseBytes, mostBytes, fault}
 use Rattle.framing.specs.Reading.{good, reading}
 use Rattle.framing.specs.Writing.{mostWords, responseSent, badMessage}
+use Rattle.framing.specs.WidthLaws.{admitted-words}
 use Rattle.framing.specs.StandingLaws.{stands-sof}
 use Rattle.framing.specs.Decided.{Earliest, undecided, decides-good}
 use Rattle.framing.specs.Outcomes.{Opens, opened-reading}
@@ -28,7 +30,7 @@ use Rattle.framing.specs.WaveLaws.{Stand, Carry, stands-behind, stand-ap
 use Rattle.framing.specs.Passing.{Passes, stay, pass, passes-append, Passed, passed}
 use Rattle.framing.specs.Parts.{bits-pass, main-grows, response-grows, Complete, shut-fine, end-fine, sealed-complete, plain-complete}
 use Rattle.framing.specs.Admitted.{Admitted, admitted}
-use Rattle.framing.specs.WordLaws.{bytes-length, symbols-few}
+use Rattle.framing.specs.WordLaws.{bytes-length, words-count}
 
 -- ## A message's symbols
 
@@ -124,9 +126,9 @@ pub wave-words : {main : List ℕ} {kind : Response} {rs ws : List ℕ} → Fram
 wave-words f = ap length (f .words-are) ∙ omega (arith, length-append (f .inner) (f .closing ∷ []), wave-length (f .carries))
 
 pub wave-few : {main : List ℕ} {kind : Response} {rs ws : List ℕ} → FrameWave main kind rs ws → badMessage main kind rs ≡ false → length ws ≤ mostWords
-wave-few {main} {kind} {rs} f h = omega (arith, wave-words f, symbols-few main kind rs h)
+wave-few {main} {kind} {rs} f h = omega (arith, wave-words f, words-count nominalClock main kind rs, admitted-words main rs nominalClock kind h)
 
--- The same wherever the words stand in a recording.
+-- A wave is read wherever its words stand in a recording, beginning passive.
 reads-standing : (line ws main : List ℕ) (kind : Response) (rs : List ℕ) (o lent : ℕ) → FrameWave main kind rs ws → Stand line o ws
     → o + length ws ≤ length line → badMessage main kind rs ≡ false → Bytes main → Bytes rs → o % 2 ≡ 0 → mostBytes ≤ lent
     → reading line o lent ≡ good (withCheck main) (responseSent kind rs) kind o (o + length ws - 1)

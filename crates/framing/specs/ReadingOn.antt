@@ -4,16 +4,18 @@ use Prim.Native.Nat.{ℕ, zero, suc, _+_, _-_, _≤_, _<_}
 use mathlib.Core.Path.{_≡_, refl, ap}
 use mathlib.Core.Bool.{Bool, true, false, cond}
 use mathlib.Core.List.{List, [], _∷_}
+use mathlib.Core.Logic.{_⊎_, inl, inr}
 use native.Mathlib.Omega.{arith}
 use lib.ListN.{length}
 use Rattle.laws.specs.Tests.{never}
 use Rattle.framing.specs.declared.Response.{Response}
 use Rattle.framing.specs.Line.{endAt, at, opening}
-use Rattle.framing.specs.Reading.{Outcome, good, reading}
+use Rattle.framing.specs.Reading.{Outcome, good, decided, reading}
+use Rattle.framing.specs.Faults.{mostBytes}
 use Rattle.framing.specs.Answers.{tells}
 use Rattle.framing.specs.FirstLaws.{at-first}
 use Rattle.framing.specs.Decided.{Decision, isUnfinished, isGood, isFaulty, decision, GoodAt, good-at}
-use Rattle.framing.specs.Outcomes.{goesOn, OpenedBy, opened-by}
+use Rattle.framing.specs.Outcomes.{Comes, isPast, isShort, isQuiet, isOpened, comes, goesOn, OpenedBy, opened-by}
 
 -- ## Progress
 
@@ -76,6 +78,22 @@ reads-few h (last e) = omega arith
 reads-few {ws} {lent} h (more {p} e r) =
     let m = progress ws p lent e in
     omega (arith, reads-few (omega arith) r)
+
+-- Where reading on stops, with bytes enough lent and the position in the recording, it is quiet or unfinished: 1 or 2.
+pub stops : (ws : List ℕ) (p lent : ℕ) → p ≤ length ws → mostBytes ≤ lent → goesOn (reading ws p lent) ≡ false
+    → (tells (reading ws p lent) .number ≡ 1) ⊎ (tells (reading ws p lent) .number ≡ 2)
+stops ws p lent h l g = go (reading ws p lent) (comes ws p lent) g
+  where
+    by : (o : ℕ) (x : Outcome) → Decision ws o x → goesOn x ≡ false → (tells x .number ≡ 1) ⊎ (tells x .number ≡ 2)
+    by o x (isUnfinished u) g = inr refl
+    by o x (isGood e f n) g = never refl g
+    by o x (isFaulty e n) g = never refl g
+
+    go : (x : Outcome) → Comes ws p lent x → goesOn x ≡ false → (tells x .number ≡ 1) ⊎ (tells x .number ≡ 2)
+    go x (isPast a) g = absurd (omega arith)
+    go x (isShort a b) g = absurd (omega arith)
+    go x (isQuiet a b) g = inl refl
+    go x (isOpened {o} a b op) g = by o (decided ws o) (decision ws o) g
 
 -- ## A closing end opens
 

@@ -1,5 +1,5 @@
 -- Symbols as a clock sends them, and the writer's words seen so: two ends of 300, and between them the symbols of the message.
-use Prim.Native.Nat.{ℕ, suc, _+_, _*_, _≤_}
+use Prim.Native.Nat.{ℕ, suc, _+_, _*_}
 use mathlib.Core.Path.{_≡_, refl, sym, ap, _∙_}
 use mathlib.Core.Bool.{Bool, true, false, not}
 use mathlib.Core.List.{List, [], _∷_, _++_, append-assoc}
@@ -15,11 +15,10 @@ use Rattle.checkbyte.specs.Register.{withCheck}
 use Rattle.framing.specs.declared.Response.{Response}
 use Rattle.framing.specs.declared.Response.the-variants.{Without, Plain, Checked}
 use Rattle.framing.specs.Bits.{bitsOf}
-use Rattle.framing.specs.Writing.{mostWords, bitWidths, byteWidths, responseSent, responseWidths, frameWords, badMessage}
+use Rattle.framing.specs.Writing.{bitWidths, byteWidths, responseWidths, frameWords}
 use Rattle.framing.specs.Waves.{bitSymbols, byteSymbols, responseSymbols, frameSymbols}
 use Rattle.framing.specs.WaveLaws.{turned}
 use Rattle.framing.specs.ByteLaws.{bits-length}
-use Rattle.framing.specs.Admitted.{Admitted, admitted}
 
 -- the width of what is sent; 0 where nothing is, which no frame has
 abbrev pub widthOf : Sent → ℕ
@@ -100,24 +99,3 @@ pub words-count : (c : Clock) (main : List ℕ) (kind : Response) (rs : List ℕ
 words-count c main kind rs =
     ap length (frame-sent c main kind rs)
     ∙ omega (arith, length-append (sentWidths c true (frameSymbols main kind rs)) (endWidth .0 ∷ []), sent-length c true (frameSymbols main kind rs))
-
-response-few : (kind : Response) (rs : List ℕ) → length (responseSymbols kind rs) ≤ 2 + 8 * length (responseSent kind rs)
-response-few Without rs = omega arith
-response-few Plain rs = omega (arith, bytes-length rs)
-response-few Checked rs = omega (arith, bytes-length (withCheck rs))
-
--- An admitted message has at most 99 symbols between its ends.
-pub symbols-few : (main : List ℕ) (kind : Response) (rs : List ℕ) → badMessage main kind rs ≡ false → length (frameSymbols main kind rs) ≤ 99
-symbols-few main kind rs h =
-    let a : Admitted main kind rs = admitted main kind rs .0 h in
-    omega (
-      arith,
-      a .at-most,
-      length-append (byteSymbols (withCheck main)) (responseSymbols kind rs),
-      bytes-length (withCheck main),
-      response-few kind rs,
-    )
-
--- "A frame takes at most 101 words."
-pub words-few : (c : Clock) (main : List ℕ) (kind : Response) (rs : List ℕ) → badMessage main kind rs ≡ false → length (frameWords c main kind rs) ≤ mostWords
-words-few c main kind rs h = omega (arith, words-count c main kind rs, symbols-few main kind rs h)
