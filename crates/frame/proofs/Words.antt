@@ -4,8 +4,8 @@ use mathlib.Core.Path.{_≡_, refl, sym, ap, _∙_}
 use mathlib.Core.Bool.{false}
 use mathlib.Core.List.{List, [], _∷_, _++_, append-assoc}
 use native.Mathlib.Omega.{arith}
-use lib.ListN.{length, getD, take, set, length-append}
-use lib.Seq.{sets, length-take-le, take-all}
+use lib.ListN.{length, getD, take, set, length-append, length-set}
+use lib.Seq.{sets, length-take-le, take-all, length-sets}
 use Rattle.laws.specs.Lent.{sets-then}
 use Rattle.symbol.specs.declared.Clock.{Clock}
 use Rattle.symbol.specs.Sending.{endWidth}
@@ -14,7 +14,7 @@ use Rattle.framing.specs.declared.Response.{Response}
 use Rattle.framing.specs.declared.Response.the-variants.{Plain, Checked}
 use Rattle.framing.specs.Bits.{bitsOf, bitsOfByte}
 use Rattle.framing.specs.Writing.{bitWidths, byteWidths, responseWidths, frameWords}
-use Rattle.framing.specs.WidthLaws.{byte-widths-length, byte-widths-append, byte-widths-more, with-check-length, responseWords, response-widths-length}
+use Rattle.framing.specs.WidthLaws.{byte-widths-length, byte-widths-append, byte-widths-more, with-check-length, responseWords, response-widths-length, frame-words-length}
 
 -- One byte more.
 pub byte-more : (c : Clock) (bs l : List ℕ) (at i : ℕ) → i < length bs
@@ -81,3 +81,29 @@ checked-room c kind rs at n e h =
     let l : length (responseWidths c kind rs) ≡ responseWords Checked (length rs) =
     response-widths-length c kind rs ∙ ap (λ (k : Response). responseWords k (length rs)) e in
     omega arith
+
+-- ## Room for a frame, while its parts are laid
+
+module _ (c : Clock) (main : List ℕ) (kind : Response) (rs l : List ℕ) (enough : length (frameWords c main kind rs) ≤ length l) where
+  -- the opening, the SOF and the main part have room
+  pub main-room : 2 + 8 * (length main + 1) < length l
+  main-room = omega (arith, frame-words-length c main kind rs)
+
+  module _ (m : List ℕ) (eod first sof : ℕ) (at-eod : eod ≡ 2 + 8 * (length main + 1)) (laid : m ≡ sets (set (set l 0 first) 1 sof) 2 (byteWidths c (withCheck main))) where
+    pub main-long : length m ≡ length l
+    main-long = ap length laid ∙ length-sets (set (set l 0 first) 1 sof) 2 (byteWidths c (withCheck main)) ∙ length-set (set l 0 first) 1 sof ∙ length-set l 0 first
+
+    -- so has the response behind them
+    pub response-room : eod + length (responseWidths c kind rs) ≤ length m
+    response-room = omega (arith, main-long, frame-words-length c main kind rs, response-widths-length c kind rs)
+
+    module _ (n : List ℕ) (closing : ℕ) (at-closing : closing ≡ eod + length (responseWidths c kind rs)) (answered : n ≡ sets m eod (responseWidths c kind rs)) where
+      pub response-long : length n ≡ length l
+      response-long = ap length answered ∙ length-sets m eod (responseWidths c kind rs) ∙ main-long
+
+      -- and the closing end behind it
+      pub closing-room : closing < length n
+      closing-room = omega (arith, response-long, frame-words-length c main kind rs, response-widths-length c kind rs)
+
+      pub closing-last : closing + 1 ≡ length (frameWords c main kind rs)
+      closing-last = omega (arith, frame-words-length c main kind rs, response-widths-length c kind rs)

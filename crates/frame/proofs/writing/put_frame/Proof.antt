@@ -1,68 +1,65 @@
 -- `frame::put_frame` meets its contract: the parts of the frame, laid one behind the other.
-use mathlib.Core.Path.{ap, _∙_}
 use native.Mathlib.Omega.{arith}
-use lib.ListN.{length, length-set}
-use lib.Seq.{length-sets}
-use borrow.Author.Needs.{needs}
-use Rattle.framing.specs.WidthLaws.{frame-words-length, response-widths-length}
-use Rattle.frame.proofs.Words.{frame-laid}
+use lib.ListN.{length-set}
+use Rattle.frame.proofs.Words.{main-room, response-room, closing-room, response-long, closing-last, frame-laid}
 use Rattle.frame.proofs.writing.put_frame.Statement.{statement}
 use Rattle.frame.proofs.writing.put_frame.Tie as tie
 
 slice-write-lent : tie.Need-slice-write-lent
 slice-write-lent c =
     let a = c .before .before .before .before .args in
-    omega (arith, frame-words-length (a .clock) (a .main .now) (a .kind) (a .response .now))
+    omega (arith, main-room (a .clock) (a .main .now) (a .kind) (a .response .now) (a .lent .now) (c .before .before .before .before .pre))
 
 slice-write-lent-2 : tie.Need-slice-write-lent-2
 slice-write-lent-2 c =
     let a = c .before .before .before .before .args in
-    simp length-set (omega (arith, frame-words-length (a .clock) (a .main .now) (a .kind) (a .response .now)))
+    simp length-set (omega (arith, main-room (a .clock) (a .main .now) (a .kind) (a .response .now) (a .lent .now) (c .before .before .before .before .pre)))
 
 put-checked-requires : tie.Need-put-checked-requires
 put-checked-requires c κs =
     let a = c .before .before .before .before .before .args in
-    simp length-set (omega (arith, frame-words-length (a .clock) (a .main .now) (a .kind) (a .response .now)))
+    simp length-set (omega (arith, main-room (a .clock) (a .main .now) (a .kind) (a .response .now) (a .lent .now) (c .before .before .before .before .before .pre)))
 
 put-response-requires : tie.Need-put-response-requires
 put-response-requires c κs =
     let a = c .before .before .before .before .before .before .before .before .before .args in
     let main = c .before .before .before .put-checked .ensures in
-    omega (arith, frame-words-length (a .clock) (a .main .now) (a .kind) (a .response .now), response-widths-length (a .clock) (a .kind) (a .response .now), main .0, simp (length-sets, length-set) at (ap length (main .1)))
+    response-room (a .clock) (a .main .now) (a .kind) (a .response .now) (a .lent .now) (c .before .before .before .before .before .before .before .before .before .pre) _ _ _ _ (main .0) (main .1)
 
 mul-lent : tie.Need-mul-lent
 mul-lent c =
     let a = c .before .before .before .before .before .before .before .before .before .before .before .before .args in
     let main = c .before .before .before .before .before .before .put-checked .ensures in
     let reply = c .before .before .put-response .ensures in
-    omega (arith, frame-words-length (a .clock) (a .main .now) (a .kind) (a .response .now), response-widths-length (a .clock) (a .kind) (a .response .now), main .0, reply .0, simp (length-sets, length-set) at (ap length (main .1)), simp length-sets at (ap length (reply .1)))
+    omega (arith, closing-room (a .clock) (a .main .now) (a .kind) (a .response .now) (a .lent .now) (c .before .before .before .before .before .before .before .before .before .before .before .before .pre) _ _ _ _ (main .0) (main .1) _ _ (reply .0) (reply .1), response-long (a .clock) (a .main .now) (a .kind) (a .response .now) (a .lent .now) (c .before .before .before .before .before .before .before .before .before .before .before .before .pre) _ _ _ _ (main .0) (main .1) _ _ (reply .0) (reply .1))
 
 slice-write-lent-3 : tie.Need-slice-write-lent-3
 slice-write-lent-3 c =
     let a = c .before .before .before .before .before .before .before .before .before .before .before .before .args in
     let main = c .before .before .before .before .before .before .put-checked .ensures in
     let reply = c .before .before .put-response .ensures in
-    omega (arith, frame-words-length (a .clock) (a .main .now) (a .kind) (a .response .now), response-widths-length (a .clock) (a .kind) (a .response .now), main .0, reply .0, simp (length-sets, length-set) at (ap length (main .1)), simp length-sets at (ap length (reply .1)))
+    closing-room (a .clock) (a .main .now) (a .kind) (a .response .now) (a .lent .now) (c .before .before .before .before .before .before .before .before .before .before .before .before .pre) _ _ _ _ (main .0) (main .1) _ _ (reply .0) (reply .1)
 
 add-result : tie.Need-add-result
 add-result c =
     let a = c .before .before .before .before .before .before .before .before .before .before .before .before .args in
     let main = c .before .before .before .before .before .before .put-checked .ensures in
     let reply = c .before .before .put-response .ensures in
-    omega (arith, frame-words-length (a .clock) (a .main .now) (a .kind) (a .response .now), response-widths-length (a .clock) (a .kind) (a .response .now), main .0, reply .0, simp (length-sets, length-set) at (ap length (main .1)), simp length-sets at (ap length (reply .1)))
+    omega (arith, closing-room (a .clock) (a .main .now) (a .kind) (a .response .now) (a .lent .now) (c .before .before .before .before .before .before .before .before .before .before .before .before .pre) _ _ _ _ (main .0) (main .1) _ _ (reply .0) (reply .1), response-long (a .clock) (a .main .now) (a .kind) (a .response .now) (a .lent .now) (c .before .before .before .before .before .before .before .before .before .before .before .before .pre) _ _ _ _ (main .0) (main .1) _ _ (reply .0) (reply .1))
 
 same-length : tie.Need-same-length
 same-length c =
+    let a = c .before .before .before .before .before .before .before .before .before .before .before .before .args in
     let main = c .before .before .before .before .before .before .put-checked .ensures in
     let reply = c .before .before .put-response .ensures in
-    simp length-set (simp length-sets at (ap length (reply .1)) ∙ simp (length-sets, length-set) at (ap length (main .1)))
+    simp length-set (response-long (a .clock) (a .main .now) (a .kind) (a .response .now) (a .lent .now) (c .before .before .before .before .before .before .before .before .before .before .before .before .pre) _ _ _ _ (main .0) (main .1) _ _ (reply .0) (reply .1))
 
 returns : tie.Need-returns
 returns c =
     let a = c .before .before .before .before .before .before .before .before .before .before .before .before .args in
     let main = c .before .before .before .before .before .before .put-checked .ensures in
     let reply = c .before .before .put-response .ensures in (
-      omega (arith, frame-words-length (a .clock) (a .main .now) (a .kind) (a .response .now), response-widths-length (a .clock) (a .kind) (a .response .now), main .0, reply .0),
+      closing-last (a .clock) (a .main .now) (a .kind) (a .response .now) (a .lent .now) (c .before .before .before .before .before .before .before .before .before .before .before .before .pre) _ _ _ _ (main .0) (main .1) _ _ (reply .0) (reply .1),
       rw (reply .1, reply .0, main .1, main .0) (frame-laid (a .clock) (a .main .now) (a .kind) (a .response .now) (a .lent .now)),
     )
 
