@@ -10,7 +10,7 @@ use Rattle.symbol.specs.declared.Clock as symbol
 use Rattle.framing.specs.declared.Response.{Response}
 use Rattle.framing.specs.declared.Writing.{Writing}
 use Rattle.framing.specs.Writing.{turnedAway, writing, counted, counts, wordsAfter, WritePromise}
-use Rattle.j1850.specs.declared.Clock.{Clock}
+use Rattle.j1850.specs.declared.answers.Clock.{Clock}
 use Rattle.j1850.specs.Answers.{clockOf, kindOf, noSuchKind, sheetOf, countedAs}
 
 module _ (c : Clock) (main : List ℕ) (kind : ℕ) (rs : List ℕ) (lent : ℕ) where
@@ -22,11 +22,6 @@ module _ (c : Clock) (main : List ℕ) (kind : ℕ) (rs : List ℕ) (lent : ℕ)
   unfolding sheetOf
   a-kind h = rw (le-ltb 2 kind h)
 
--- a kind that is none changes nothing, whatever the clock
-kept : (bad : Bool) (lent : List ℕ) → lent ≡ wordsAfter (cond bad (turnedAway 36) (turnedAway 37)) lent
-kept true lent = refl
-kept false lent = refl
-
 -- What the room below promises of one of the three kinds is what is promised here.
 pub written-as : (c : Clock) (main : List ℕ) (kind : ℕ) (rs entry exit : List ℕ) (answer : Writing) (k : symbol.Clock) (asked : Response)
     → k ≡ clockOf c → asked ≡ kindOf kind → kind ≤ 2 → WritePromise k main asked rs entry exit answer
@@ -34,6 +29,11 @@ pub written-as : (c : Clock) (main : List ℕ) (kind : ℕ) (rs entry exit : Lis
 written-as c main kind rs entry exit answer k asked ec ek h p =
     let same : sheetOf c main kind rs (length entry) ≡ writing k main asked rs (length entry) = rw (a-kind c main kind rs (length entry) h, ec, ek) in
     (rw same (ap countedAs (p .counts-it)), rw same (p .lends-it))
+
+-- a kind that is none changes nothing, whatever the clock
+kept : (bad : Bool) (lent : List ℕ) → lent ≡ wordsAfter (cond bad (turnedAway 36) (turnedAway 37)) lent
+kept true lent = refl
+kept false lent = refl
 
 pub no-kind-kept : (c : symbol.Clock) (lent : List ℕ) → lent ≡ wordsAfter (noSuchKind c) lent
 no-kind-kept c lent = kept (not (goodOf c)) lent

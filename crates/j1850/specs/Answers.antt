@@ -14,10 +14,10 @@ use Rattle.framing.specs.declared.Response.{Response}
 use Rattle.framing.specs.declared.Response.the-variants.{Without, Plain, Checked}
 use Rattle.framing.specs.Writing as writing
 use Rattle.framing.specs.Answers.{Told}
-use Rattle.j1850.specs.declared.Gate.{Gate}
-use Rattle.j1850.specs.declared.Clock.{Clock}
-use Rattle.j1850.specs.declared.Counted.{Counted}
-use Rattle.j1850.specs.declared.Read.{Read}
+use Rattle.j1850.specs.declared.answers.Gate.{Gate}
+use Rattle.j1850.specs.declared.answers.Clock.{Clock}
+use Rattle.j1850.specs.declared.answers.Counted.{Counted}
+use Rattle.j1850.specs.declared.answers.Read.{Read}
 
 -- a gate and a clock as the rooms below have them
 abbrev pub gateOf : Gate → volts.Gate

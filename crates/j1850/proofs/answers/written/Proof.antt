@@ -1,11 +1,11 @@
--- `j1850::written` gives the numbers of the answer: at each arm the answer is the arm's case.
+-- `answers::written` gives the numbers of the answer: at each arm the answer is the arm's case.
 use mathlib.Core.Path.{_≡_, refl, sym, ap, _∙_}
 use Rattle.framing.specs.declared.Writing.{Writing}
 use Rattle.framing.specs.Writing.{counted}
 use Rattle.j1850.specs.Answers.{countedAs}
 use borrow.Author.Needs.{needs}
-use Rattle.j1850.proofs.written.Statement.{statement}
-use Rattle.j1850.proofs.written.Tie as tie
+use Rattle.j1850.proofs.answers.written.Statement.{statement}
+use Rattle.j1850.proofs.answers.written.Tie as tie
 
 enum-known-answer : tie.Need-enum-known-answer
 enum-known-answer c = search needs

@@ -1,11 +1,11 @@
--- `j1850::no_such_kind` tells a bad clock before the kind.
+-- `answers::no_such_kind` tells a bad clock before the kind.
 use mathlib.Core.Path.{_≡_, refl, sym, ap, _∙_}
 use borrow.Author.Needs.{needs}
 use mathlib.Core.Bool.{Bool, cond, not}
 use Rattle.framing.specs.Writing.{turnedAway, counts}
 use Rattle.j1850.specs.Answers.{countedAs}
-use Rattle.j1850.proofs.no_such_kind.Statement.{statement}
-use Rattle.j1850.proofs.no_such_kind.Tie as tie
+use Rattle.j1850.proofs.answers.no_such_kind.Statement.{statement}
+use Rattle.j1850.proofs.answers.no_such_kind.Tie as tie
 
 good-clock-requires : tie.Need-good-clock-requires
 good-clock-requires c κs = search needs

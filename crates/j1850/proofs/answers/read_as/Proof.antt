@@ -1,11 +1,11 @@
--- `j1850::read_as` gives the numbers of the answer: at each arm the answer is the arm's case.
+-- `answers::read_as` gives the numbers of the answer: at each arm the answer is the arm's case.
 use mathlib.Core.Path.{_≡_, refl, sym, ap, _∙_}
 use Rattle.framing.specs.declared.Reading.{Reading}
 use Rattle.framing.specs.Answers.{told, bare}
 use Rattle.j1850.specs.Answers.{readAs}
 use borrow.Author.Needs.{needs}
-use Rattle.j1850.proofs.read_as.Statement.{statement}
-use Rattle.j1850.proofs.read_as.Tie as tie
+use Rattle.j1850.proofs.answers.read_as.Statement.{statement}
+use Rattle.j1850.proofs.answers.read_as.Tie as tie
 
 enum-known-answer : tie.Need-enum-known-answer
 enum-known-answer c = search needs

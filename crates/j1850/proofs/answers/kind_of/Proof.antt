@@ -1,8 +1,8 @@
--- `j1850::kind_of` gives the kind of each number.
+-- `answers::kind_of` gives the kind of each number.
 use mathlib.Core.Path.{_≡_, refl, sym, ap, _∙_}
 use borrow.Author.Tests.{eq-eqb, ne-eqb}
-use Rattle.j1850.proofs.kind_of.Statement.{statement}
-use Rattle.j1850.proofs.kind_of.Tie as tie
+use Rattle.j1850.proofs.answers.kind_of.Statement.{statement}
+use Rattle.j1850.proofs.answers.kind_of.Tie as tie
 
 returns : tie.Need-returns
 returns c = simp (eq-eqb _ 0 (c .if1 .taken))

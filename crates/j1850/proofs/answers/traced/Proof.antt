@@ -1,11 +1,11 @@
--- `j1850::traced` gives the numbers of the answer: at each arm the answer is the arm's case.
+-- `answers::traced` gives the numbers of the answer: at each arm the answer is the arm's case.
 use mathlib.Core.Path.{_≡_, refl, sym, ap, _∙_}
 use Rattle.volts.specs.declared.Traced.{Traced}
 use Rattle.volts.specs.Tracing.{numbered}
 use Rattle.j1850.specs.Answers.{tracedAs}
 use borrow.Author.Needs.{needs}
-use Rattle.j1850.proofs.traced.Statement.{statement}
-use Rattle.j1850.proofs.traced.Tie as tie
+use Rattle.j1850.proofs.answers.traced.Statement.{statement}
+use Rattle.j1850.proofs.answers.traced.Tie as tie
 
 enum-known-answer : tie.Need-enum-known-answer
 enum-known-answer c = search needs
