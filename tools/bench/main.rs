@@ -19,6 +19,7 @@ mod random;
 
 use ours::{Clock, Counted, Gate, Read};
 use random::Random;
+use std::cell::RefCell;
 use std::hint::black_box;
 use std::time::Instant;
 
@@ -66,11 +67,10 @@ fn trace() -> Vec<f32> {
 
 type Intervals = fn(Gate, &[f32], &mut [u32]) -> Counted;
 
-fn trace_pass(intervals: Intervals, samples: &[f32]) -> usize {
-    let mut words = vec![0; samples.len() + 1];
-    let answer = intervals(black_box(GATE), black_box(samples), &mut words);
-    black_box(&words);
-    answer.count + answer.number as usize
+fn trace_pass(intervals: Intervals, trace: &(Vec<f32>, RefCell<Vec<u32>>)) -> usize {
+    let words = &mut trace.1.borrow_mut()[..];
+    let answer = intervals(black_box(GATE), black_box(&trace.0), words);
+    answer.count + answer.number as usize + words[answer.count - 1] as usize
 }
 
 /// Messages of every length and kind that is admitted.
@@ -152,35 +152,44 @@ fn job<T: 'static>(
 }
 
 fn jobs() -> Vec<Job> {
+    let words = RefCell::new(vec![0; LONGEST + 1]);
     let all = messages();
-    let words: usize = all.len();
+    let count = all.len();
     let mut found = vec![
         job(
             "volts".into(),
             "sample",
             LONGEST,
-            trace(),
-            |proved, samples| {
+            (trace(), words),
+            |proved, trace| {
                 trace_pass(
                     if proved {
                         ours::intervals
                     } else {
                         plain::intervals
                     },
-                    samples,
+                    trace,
                 )
             },
         ),
-        job("write".into(), "message", words, all, |proved, messages| {
+        job("write".into(), "message", count, all, |proved, messages| {
             write_pass(if proved { ours::write } else { plain::write }, messages)
         }),
     ];
+    // The same intervals in recordings of different lengths: a cost that grows with the length would show here.
     for length in [1_024, 2_048, 4_096, 8_192, LONGEST] {
-        let name = format!("read-{length}");
-        let line = recording(length);
-        found.push(job(name, "interval", length, line, |proved, line| {
-            read_pass(if proved { ours::read } else { plain::read }, line)
-        }));
+        let line = recording(LONGEST);
+        let parts: Vec<Vec<u32>> = line.chunks(length).map(<[u32]>::to_vec).collect();
+        found.push(job(
+            format!("read-{length}"),
+            "interval",
+            LONGEST,
+            parts,
+            |proved, parts| {
+                let read = if proved { ours::read } else { plain::read };
+                parts.iter().map(|part| read_pass(read, part)).sum()
+            },
+        ));
     }
     found
 }
