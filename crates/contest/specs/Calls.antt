@@ -1,7 +1,7 @@
 -- The calls on a row: when each is turned away, and the row and the lent words afterwards. Document 01, "One can load ..,
 -- withdraw .., set a clock, and run a round; what isn't named stays", and "When a call is turned away".
 use Prim.Native.Nat.{ℕ}
-use mathlib.Core.Bool.{Bool, true, false, cond, not, _&&_, _||_}
+use mathlib.Core.Bool.{Bool, true, cond, not, _&&_, _||_}
 use mathlib.Core.List.{List, [], _∷_, _++_}
 use lib.Dec.{eqb, leb, ltb}
 use lib.ListN.{length, drop, getD, set}
@@ -25,6 +25,7 @@ pub data Call : Type 0 where
 abbrev pub rowSize : List Station → Bool
 rowSize row = eqb (length row) 0 || ltb mostStations (length row)
 
+-- every station of the row is sound, the empty ones too
 unfoldable pub allSound : List Station → Bool
 allSound [] = true
 allSound (s ∷ row) = sound s && allSound row
@@ -57,6 +58,7 @@ nothingToWithdraw row i = empty (getD row i blank)
 abbrev pub fewWords : List ℕ → Bool
 fewWords lent = ltb (length lent) mostWords
 
+-- no station of the row holds a message
 unfoldable pub allEmpty : List Station → Bool
 allEmpty [] = true
 allEmpty (s ∷ row) = empty s && allEmpty row
@@ -104,6 +106,7 @@ taken c row = eqb (numberOf c row) 0
 abbrev pub loaded : List ℕ → Station → Station
 loaded m s = record { clock = s .clock; bytes = m ++ drop (length m) (s .bytes); len = length m }
 
+-- setting a clock changes the clock alone
 abbrev pub clocked : Clock → Station → Station
 clocked c s = record { clock = c; bytes = s .bytes; len = s .len }
 
@@ -111,6 +114,7 @@ clocked c s = record { clock = c; bytes = s .bytes; len = s .len }
 abbrev pub at : ℕ → (Station → Station) → List Station → List Station
 at i change row = set row i (change (getD row i blank))
 
+-- the row after a call that is taken
 unfoldable pub done : Call → List Station → List Station
 done (load i m) row = at i (loaded m) row
 done (withdraw i) row = at i emptied row
@@ -125,5 +129,6 @@ after c row = cond (taken c row) (done c row) row
 abbrev pub written : List ℕ → List ℕ → List ℕ
 written words lent = words ++ drop (length words) lent
 
+-- those of a round on a row; one that is turned away writes none
 unfoldable pub lentAfter : List Station → List ℕ → List ℕ
 lentAfter row lent = cond (taken (round lent) row) (written (roundOf row .words) lent) lent

@@ -1,6 +1,6 @@
 -- A round on a row of stations: what each brings to it, and the words, the verdicts and the line time that come of it.
 use Prim.Native.Nat.{ℕ, _+_, _-_}
-use mathlib.Core.Bool.{Bool, true, false, cond, not}
+use mathlib.Core.Bool.{Bool, false, cond, not}
 use mathlib.Core.List.{List, [], _∷_, _++_, map}
 use lib.ListN.{length, replicate}
 use Rattle.symbol.specs.declared.Clock.{Clock}
@@ -28,6 +28,7 @@ pulsesOf c active (b ∷ bits) = record { bit = b; width = bitWidth c active b .
 abbrev pub holder : Clock → List ℕ → Entry
 holder c m = enters (c .sof .0) (pulsesOf c false (bitsSent m))
 
+-- what a station brings to a round
 abbrev pub entryOf : Station → Entry
 entryOf s = cond (empty s) absent (holder (s .clock) (stored s))
 
@@ -38,10 +39,12 @@ abbrev pub sofAsks : Entry → List ℕ
 sofAsks absent = []
 sofAsks (enters sof pulses) = sof ∷ []
 
+-- the SOF that each holder asks for
 unfoldable pub sofsAsked : List Entry → List ℕ
 sofsAsked [] = []
 sofsAsked (e ∷ entries) = sofAsks e ++ sofsAsked entries
 
+-- the places as the first bit begins
 abbrev pub seatOf : Entry → Seat
 seatOf absent = out Idle
 seatOf (enters sof pulses) = on pulses
@@ -69,11 +72,13 @@ told sof c = record {
 unfoldable pub contestOf : List Entry → Round
 contestOf entries = told (longest (sofsAsked entries)) (play mostBits false 1 (map seatOf entries))
 
+-- the round on a row of stations
 unfoldable pub roundOf : List Station → Round
 roundOf row = contestOf (map entryOf row)
 
 -- ## The verdicts, and the row afterwards
 
+-- a verdict that says how a place fared
 abbrev pub verdictOf : Fared → Verdict
 verdictOf f = record { fared = f }
 
@@ -91,6 +96,7 @@ afterFare Idle s = s
 afterFare Through s = emptied s
 afterFare (Lost k) s = s
 
+-- the row after a round, station for station
 unfoldable pub afterFares : List Fared → List Station → List Station
 afterFares [] row = row
 afterFares (f ∷ fares) [] = []

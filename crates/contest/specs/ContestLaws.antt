@@ -1,23 +1,22 @@
 -- A round of any entries whose widths lie in the sending windows: what stands on the line, how each place fares, and how long
 -- it takes. Stations with clocks are one case of it.
-use Prim.Native.Nat.{ℕ, suc, _+_, _*_, _≤_, _<_, max}
-use mathlib.Core.Path.{_≡_, refl, sym, ap, _∙_}
+use Prim.Native.Nat.{ℕ, suc, _+_, _*_, _≤_}
+use mathlib.Core.Path.{_≡_, refl, ap}
 use mathlib.Core.Logic.{_≢_}
-use mathlib.Core.Bool.{Bool, true, false, cond, not}
+use mathlib.Core.Bool.{Bool, true, false, cond}
 use mathlib.Core.List.{List, [], _∷_, _++_, map}
 use native.Mathlib.Omega.{arith}
-use lib.ListN.{length, length-append, length-map}
+use lib.ListN.{length, length-append}
 use Rattle.symbol.specs.Clocks.{Start}
-use Rattle.symbol.specs.Sending.{SendingWindow, endWidth}
+use Rattle.symbol.specs.Sending.{SendingWindow}
 use Rattle.symbol.specs.SendingLaws.{bitSymbol}
 use Rattle.framing.specs.Writing.{mostWords}
-use Rattle.contest.specs.declared.Fared.the-variants.{Idle}
 use Rattle.contest.specs.Stations.{Bits}
 use Rattle.contest.specs.Order.{ahead}
-use Rattle.contest.specs.Round.{Pulse, Seat, out, on, longest, mostBits, play, Course}
-use Rattle.contest.specs.Contest.{Entry, absent, enters, sofAsks, sofsAsked, seatOf, sumOf, Round, told, contestOf}
+use Rattle.contest.specs.Round.{longest, mostBits, play}
+use Rattle.contest.specs.Contest.{Entry, absent, enters, sofsAsked, seatOf, sumOf, Round, contestOf}
 use Rattle.contest.specs.First.{first, firstOf}
-use Rattle.contest.specs.RoundLaws.{bitsIn, bitsAt, firstAt, Carried, none, next, Fair, FairAll, fareOf, Runs, plays-out}
+use Rattle.contest.specs.RoundLaws.{bitsIn, firstAt, Carried, none, next, Fair, FairAll, fareOf, plays-out}
 
 -- ## Entries
 
@@ -26,6 +25,7 @@ abbrev pub Keeps : Entry → Type 0
 Keeps absent = Unit {0}
 Keeps (enters sof pulses) = Start sof × Fair false pulses × (length (bitsIn pulses) ≤ mostBits)
 
+-- each of the entries keeps them
 abbrev pub KeepAll : List Entry → Type 0
 KeepAll [] = Unit {0}
 KeepAll (e ∷ entries) = Keeps e × KeepAll entries
@@ -34,7 +34,8 @@ KeepAll (e ∷ entries) = Keeps e × KeepAll entries
 abbrev pub goesOut : List Entry → Bits
 goesOut entries = firstAt (map seatOf entries)
 
-all-fair : (entries : List Entry) → KeepAll entries → FairAll false (map seatOf entries)
+-- entries that keep the rules ask for nothing outside the windows
+pub all-fair : (entries : List Entry) → KeepAll entries → FairAll false (map seatOf entries)
 all-fair [] h = tt
 all-fair (absent ∷ entries) h = (tt, all-fair entries (h .1))
 all-fair (enters sof pulses ∷ entries) h = (h .0 .1, all-fair entries (h .1))
@@ -100,6 +101,7 @@ pub record Comes (entries : List Entry) (r : Round) : Type 0 where
   pub time : r .lineTime + 300 ≡ sumOf (r .words)
   pub bound : r .lineTime ≤ 14438
 
+-- Every round of entries that keep the rules comes to this.
 pub comes : (entries : List Entry) → KeepAll entries → Comes entries (contestOf entries)
 unfolding contestOf sumOf
 comes entries h =

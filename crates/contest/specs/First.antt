@@ -1,6 +1,6 @@
 -- The first of messages by the order: it is one of them, and none of them is ahead of it.
-use mathlib.Core.Path.{_≡_, refl, sym, ap, _∙_}
-use mathlib.Core.Logic.{_⊎_, inl, inr, _≢_}
+use mathlib.Core.Path.{_≡_, refl}
+use mathlib.Core.Logic.{_⊎_, _≢_}
 use mathlib.Core.Bool.{Bool, true, false, cond, _||_, or-true}
 use mathlib.Core.List.{List, [], _∷_}
 use Rattle.laws.specs.Tests.{never}
@@ -20,6 +20,7 @@ first (x ∷ xs) = firstOf x (first xs)
 
 -- ## Of two
 
+-- a message alone
 pub first-none : (x : Bits) → firstOf x [] ≡ x
 unfolding firstOf ahead
 first-none [] = refl
@@ -59,7 +60,8 @@ unfolding first among
 none-ahead m [] h = never h refl
 none-ahead m (x ∷ xs) h = go (sameBits m x) refl (none-ahead m xs) h
   where
-    go : (b : Bool) → sameBits m x ≡ b → (among m xs ≡ true → ahead m (first xs) ≡ false) → (b || among m xs) ≡ true → ahead m (firstOf x (first xs)) ≡ false
+    go : (b : Bool) → sameBits m x ≡ b → (among m xs ≡ true → ahead m (first xs) ≡ false) → (b || among m xs) ≡ true
+        → ahead m (firstOf x (first xs)) ≡ false
     go true e ih h = rw (same-true m x e) (left-behind x (first xs))
     go false e ih h = not-ahead-transitive m (first xs) (firstOf x (first xs)) (ih h) (right-behind x (first xs))
 
@@ -69,7 +71,8 @@ unfolding first among firstOf
 first-among [] h = absurd (h refl)
 first-among (x ∷ xs) h = go (ahead x (first xs)) (first-among xs) h
   where
-    go : (b : Bool) → (first xs ≢ [] → among (first xs) xs ≡ true) → cond b x (first xs) ≢ [] → (sameBits (cond b x (first xs)) x || among (cond b x (first xs)) xs) ≡ true
+    go : (b : Bool) → (first xs ≢ [] → among (first xs) xs ≡ true) → cond b x (first xs) ≢ []
+        → (sameBits (cond b x (first xs)) x || among (cond b x (first xs)) xs) ≡ true
     go true ih h = rw (same-refl x)
     go false ih h = rw (ih h, or-true)
 

@@ -7,11 +7,9 @@ use mathlib.Core.Bool.{Bool, true, false, _&&_}
 use mathlib.Core.List.{List, [], _∷_}
 use native.Mathlib.Omega.{arith}
 use Rattle.laws.specs.Tests.{upTo}
-use Rattle.symbol.specs.Classes.{classOf}
 use Rattle.symbol.specs.ClassLaws.{class-only}
 use Rattle.symbol.specs.Sending.{SendingWindow}
 use Rattle.symbol.specs.SendingLaws.{sending-inside, bitSymbol}
-use Rattle.framing.specs.Line.{is}
 use Rattle.contest.specs.Round.{Pulse, widthsOf, shortest, longest, lasts, onLine}
 
 -- ## The shortest and the longest
@@ -91,7 +89,8 @@ lasts-in active p (q ∷ ps) h = go active (p .bit) (onlyOnes (q ∷ ps)) (p .wi
     vs : List ℕ
     vs = widthsOf ps
 
-    go : (active one ones : Bool) (w : ℕ) → SendingWindow active (bitSymbol one) w → SendingWindow active (bitSymbol ones) (lasts active (q .width ∷ vs))
+    go : (active one ones : Bool) (w : ℕ) → SendingWindow active (bitSymbol one) w
+        → SendingWindow active (bitSymbol ones) (lasts active (q .width ∷ vs))
         → SendingWindow active (bitSymbol (one && ones)) (lasts active (w ∷ q .width ∷ vs))
     go false false false w h k = omega arith
     go false false true w h k = omega arith

@@ -2,7 +2,7 @@
 -- checks differ, X has 0 and Y has 1, or X still has a bit and Y has none."
 use mathlib.Core.Path.{_≡_}
 use mathlib.Core.Bool.{Bool, true, false}
-use mathlib.Core.List.{List, [], _∷_, _++_}
+use mathlib.Core.List.{[], _∷_, _++_}
 use Rattle.contest.specs.Stations.{Bits}
 
 -- The sentence as it stands. Up to the first place where they differ the two have the same bits.

@@ -1,8 +1,8 @@
 -- `ahead` is document 01's sentence, and a strict order that is total on different messages.
-use mathlib.Core.Path.{_≡_, refl, sym, ap, _∙_}
+use mathlib.Core.Path.{_≡_, refl, ap}
 use mathlib.Core.Logic.{_⊎_, inl, inr, _≢_, _↔_}
 use mathlib.Core.Bool.{Bool, true, false}
-use mathlib.Core.List.{List, [], _∷_, _++_}
+use mathlib.Core.List.{[], _∷_, _++_}
 use Rattle.laws.specs.Tests.{never}
 use Rattle.contest.specs.Stations.{Bits}
 use Rattle.contest.specs.Order.{Ahead, hasZero, goesOn, ahead, sameBits}
@@ -105,12 +105,14 @@ not-ahead-transitive x y z p q = go (ahead x z) refl (equal-or-behind x y p)
 pub ahead-differs : (x y : Bits) → ahead x y ≡ true → x ≢ y
 ahead-differs x y p e = never (rw e at p) (irreflexive y)
 
+-- What is ahead of anything has bits.
 pub ahead-some : (x y : Bits) → ahead x y ≡ true → x ≢ []
 unfolding ahead
 ahead-some x y p e = never (rw e at p) refl
 
 -- ## Equal messages
 
+-- The test for equal bits says true for equal bits alone ..
 pub same-true : (x y : Bits) → sameBits x y ≡ true → x ≡ y
 same-true [] [] e = refl
 same-true [] (c ∷ y) e = never e refl
@@ -120,14 +122,17 @@ same-true (true ∷ x) (false ∷ y) e = never e refl
 same-true (false ∷ x) (true ∷ y) e = never e refl
 same-true (false ∷ x) (false ∷ y) e = ap (λ (r : Bits). false ∷ r) (same-true x y e)
 
+-- .. and for all of them.
 pub same-refl : (x : Bits) → sameBits x x ≡ true
 same-refl [] = refl
 same-refl (true ∷ x) = same-refl x
 same-refl (false ∷ x) = same-refl x
 
+-- Where it says false the two differ ..
 pub same-no : (x y : Bits) → sameBits x y ≡ false → x ≢ y
 same-no x y e q = never (same-refl y) (rw q at e)
 
+-- .. and it says so of any two that do.
 pub different-same : (x y : Bits) → x ≢ y → sameBits x y ≡ false
 different-same x y n = go (sameBits x y) refl
   where

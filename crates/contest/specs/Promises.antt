@@ -2,8 +2,8 @@
 -- at exit.
 use Prim.Native.Nat.{ℕ}
 use mathlib.Core.Path.{_≡_}
-use mathlib.Core.Bool.{Bool, cond}
-use mathlib.Core.List.{List, [], _∷_}
+use mathlib.Core.Bool.{cond}
+use mathlib.Core.List.{List}
 use lib.ListN.{length, replicate}
 use Rattle.symbol.specs.declared.Clock.{Clock}
 use Rattle.contest.specs.declared.Station.{Station}
@@ -14,7 +14,7 @@ use Rattle.contest.specs.declared.RoundTold.{RoundTold}
 use Rattle.contest.specs.declared.RoundAnswer.{RoundAnswer}
 use Rattle.contest.specs.Stations.{mostStations}
 use Rattle.contest.specs.Contest.{Round, roundOf, verdictOf, verdictsOf}
-use Rattle.contest.specs.Calls.{Call, load, withdraw, setClock, round, numberOf, taken, after, lentAfter}
+use Rattle.contest.specs.Calls.{load, withdraw, setClock, round, numberOf, taken, after, lentAfter}
 
 -- ## Loading, withdrawing and setting a clock
 
@@ -29,14 +29,17 @@ calledNumber Called.BadClock = 36
 calledNumber Called.Holding = 41
 calledNumber Called.NothingWaiting = 42
 
+-- What loading a message at a place promises: the answer, and the row from entry to exit.
 pub record LoadPromise (place : ℕ) (message : List ℕ) (entry exit : List Station) (answer : Called) : Type 0 where
   pub answers-it : calledNumber answer ≡ numberOf (load place message) entry
   pub leaves-it : exit ≡ after (load place message) entry
 
+-- What withdrawing from a place promises.
 pub record WithdrawPromise (place : ℕ) (entry exit : List Station) (answer : Called) : Type 0 where
   pub answers-it : calledNumber answer ≡ numberOf (withdraw place) entry
   pub leaves-it : exit ≡ after (withdraw place) entry
 
+-- What setting the clock of a place promises.
 pub record ClockPromise (place : ℕ) (clock : Clock) (entry exit : List Station) (answer : Called) : Type 0 where
   pub answers-it : calledNumber answer ≡ numberOf (setClock place clock) entry
   pub leaves-it : exit ≡ after (setClock place clock) entry
@@ -67,12 +70,15 @@ said a = record { number = toldNumber (a .told); verdicts = a .verdicts; words =
 abbrev pub played : Round → RoundSaid
 played r = record { number = 0; verdicts = verdictsOf (r .fares); words = length (r .words); lineTime = r .lineTime }
 
+-- one that is turned away: all places idle, no words, no time
 abbrev pub turnedAway : ℕ → RoundSaid
 turnedAway number = record { number = number; verdicts = replicate mostStations (verdictOf Idle); words = 0; lineTime = 0 }
 
+-- what a round on a row answers with these words lent
 unfoldable pub roundSays : List Station → List ℕ → RoundSaid
 roundSays row lent = cond (taken (round lent) row) (played (roundOf row)) (turnedAway (numberOf (round lent) row))
 
+-- What a round promises: the answer, the row and the lent words from entry to exit.
 pub record RoundPromise (entry exit : List Station) (lentEntry lentExit : List ℕ) (answer : RoundAnswer) : Type 0 where
   pub says-it : said answer ≡ roundSays entry lentEntry
   pub leaves-it : exit ≡ after (round lentEntry) entry

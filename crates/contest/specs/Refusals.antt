@@ -1,11 +1,11 @@
 -- A chain of rules that turn a call away: the first rule that holds gives the number. What that means for each number.
-use Prim.Native.Nat.{ℕ}
-use mathlib.Core.Path.{_≡_, refl}
+use Prim.Native.Nat.{ℕ, suc}
+use mathlib.Core.Path.{_≡_, refl, sym, ap, _∙_}
 use mathlib.Core.Logic.{_↔_, _≢_}
 use mathlib.Core.Bool.{Bool, true, false, cond, not, _&&_}
 use mathlib.Core.List.{List, [], _∷_, _++_}
-use native.Mathlib.Omega.{arith}
 use lib.Dec.{eqb}
+use lib.ListN.{getD, take, drop}
 use borrow.Author.Tests.{eqb-false, not-true}
 use Rattle.laws.specs.Tests.{never, both}
 use Rattle.contest.specs.Calls.{refuse}
@@ -30,13 +30,16 @@ pub record Rule : Type 0 where
   pub number : ℕ
   pub holds : Bool
 
+-- the rule of a number
 abbrev pub rule : ℕ → Bool → Rule
 rule number holds = record { number = number; holds = holds }
 
+-- the number of the first rule that holds; 0 where none does
 abbrev pub chain : List Rule → ℕ
 chain [] = 0
 chain (r ∷ rules) = refuse (r .number) (r .holds) (chain rules)
 
+-- the rules without their numbers
 abbrev pub rulesOf : List Rule → List Bool
 rulesOf [] = []
 rulesOf (r ∷ rules) = r .holds ∷ rulesOf rules
@@ -46,6 +49,7 @@ abbrev pub nowhere : ℕ → List Rule → Bool
 nowhere n [] = not (eqb 0 n)
 nowhere n (r ∷ rules) = not (eqb (r .number) n) && nowhere n rules
 
+-- no rule has the number 0, which says that none holds
 abbrev pub noZero : List Rule → Bool
 noZero [] = true
 noZero (r ∷ rules) = not (eqb (r .number) 0) && noZero rules
@@ -75,6 +79,22 @@ stops (r ∷ before) n t later h k = go (r .holds) (stops before n t later (two 
         → (cond u (r .number) (chain (before ++ (rule n t ∷ later))) ≡ n) ↔ (((u ≡ false) × NoneOf (rulesOf before)) × (t ≡ true))
     go true ih = (λ e. absurd (eqb-false (r .number) n (not-true (eqb (r .number) n) (two .0)) e), λ e. never refl (e .0 .0))
     go false ih = (λ e. let p = ih .0 e in ((refl, p .0), p .1), λ e. ih .1 (e .0 .1, e .1))
+
+-- what stands for a rule past a list's end
+abbrev pub none : Rule
+none = rule 0 false
+
+-- the rule at place k of a list, of whose number there is no other rule in it
+pub data Alone (rules : List Rule) (k : ℕ) : Type 0 where
+  alone : nowhere (getD rules k none .number) (take k rules) ≡ true → nowhere (getD rules k none .number) (drop (suc k) rules) ≡ true
+      → take k rules ++ (getD rules k none ∷ drop (suc k) rules) ≡ rules → Alone rules k
+
+-- The same for the rule at a place of a list.
+pub stops-at : (rules : List Rule) (k : ℕ) → Alone rules k
+    → (chain rules ≡ getD rules k none .number) ↔ (NoneOf (rulesOf (take k rules)) × (getD rules k none .holds ≡ true))
+stops-at rules k (alone h l e) =
+    let s = stops (take k rules) (getD rules k none .number) (getD rules k none .holds) (drop (suc k) rules) h l in
+    (λ q. s .0 (ap chain e ∙ q), λ q. ap chain (sym e) ∙ s .1 q)
 
 -- The answer is 0 exactly when no rule holds.
 pub passes : (rules : List Rule) → noZero rules ≡ true → (chain rules ≡ 0) ↔ NoneOf (rulesOf rules)

@@ -7,7 +7,7 @@ use Rattle.symbol.specs.declared.Symbol.the-variants.{Bit1}
 use Rattle.symbol.specs.Classes.{classOf}
 use Rattle.framing.specs.Line.{is}
 use Rattle.contest.specs.declared.Fared.{Fared}
-use Rattle.contest.specs.declared.Fared.the-variants.{Idle, Through, Lost}
+use Rattle.contest.specs.declared.Fared.the-variants.{Through, Lost}
 
 -- A bit that a station has to send, and the width that it asks for.
 pub record Pulse : Type 0 where
@@ -32,18 +32,21 @@ unfoldable pub asked : List Seat → List Pulse
 asked [] = []
 asked (s ∷ seats) = asks s ++ asked seats
 
+-- the widths alone
 abbrev pub widthsOf : List Pulse → List ℕ
 widthsOf ps = map (λ (p : Pulse). p .width) ps
 
 -- ## What the line does
 
--- The shortest of widths. There is none where nobody asks; the 0 stands for it and is never on the line.
+-- The shortest of widths: somebody asks for it and nobody asks for less (`shortest-asked`, `shortest-least`). Where nobody
+-- asks there is none; the 0 stands for it and is never on the line.
 unfoldable pub shortest : List ℕ → ℕ
 shortest [] = 0
 shortest (w ∷ []) = w
 shortest (w ∷ v ∷ ws) = min w (shortest (v ∷ ws))
 
--- The longest of widths. There is none where nobody asks; the 0 stands for it and is never on the line.
+-- The longest of widths: somebody asks for it and nobody asks for more (`longest-asked`, `longest-most`). Where nobody asks
+-- there is none; the 0 stands for it and is never on the line.
 unfoldable pub longest : List ℕ → ℕ
 longest [] = 0
 longest (w ∷ ws) = max w (longest ws)
@@ -73,6 +76,7 @@ pub record Course : Type 0 where
   pub widths : List ℕ
   pub seats : List Seat
 
+-- no bit more
 abbrev pub over : List Seat → Course
 over seats = record { widths = []; seats = seats }
 
@@ -80,6 +84,7 @@ over seats = record { widths = []; seats = seats }
 abbrev pub bitThen : ℕ → Course → Course
 bitThen w c = record { widths = w ∷ c .widths; seats = c .seats }
 
+-- every remaining station has sent its check byte
 abbrev pub nobodyAsks : List Pulse → Bool
 nobodyAsks [] = true
 nobodyAsks (p ∷ ps) = false
@@ -89,8 +94,8 @@ abbrev pub mostBits : ℕ
 mostBits = 96
 
 -- The bits from bit k on. "The round is over when every remaining station has sent its check byte", which is when nobody
--- asks. (The first number only bounds how many bits are told, as a recursion must have it. `plays-out` in RoundLaws.antt
--- shows that a round of sound stations is over before it is used up.)
+-- asks. The first number only bounds how many bits are told, as a recursion must have it: `row-finishes` shows that with 96
+-- every round of sound stations is over.
 unfoldable pub play : ℕ → Bool → ℕ → List Seat → Course
 play zero active k seats = over seats
 play (suc n) active k seats =

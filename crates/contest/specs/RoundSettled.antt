@@ -3,18 +3,20 @@
 use Prim.Native.Nat.{ℕ, _≤_}
 use mathlib.Core.Path.{_≡_, refl, sym, ap, _∙_}
 use mathlib.Core.Bool.{Bool, true, false, cond}
-use mathlib.Core.List.{List, [], _∷_, _++_}
+use mathlib.Core.List.{List, [], _∷_}
 use native.Mathlib.Omega.{arith}
 use lib.Dec.{eqb}
+use lib.ListN.{take}
 use borrow.Author.Tests.{ne-eqb, eqb-true}
 use Rattle.laws.specs.Settled.{settled}
 use Rattle.contest.specs.declared.Station.{Station}
 use Rattle.contest.specs.declared.RoundTold.{RoundTold}
 use Rattle.contest.specs.declared.RoundAnswer.{RoundAnswer}
 use Rattle.contest.specs.Contest.{roundOf}
-use Rattle.contest.specs.Calls.{Call, round, rowSize, unsoundStation, fewWords, nobodyWaiting, numberOf, taken, after, written, lentAfter}
+use Rattle.contest.specs.Calls.{round, rowSize, unsoundStation, fewWords, nobodyWaiting, numberOf, taken, lentAfter}
 use Rattle.contest.specs.Promises.{toldNumber, RoundSaid, said, played, turnedAway, roundSays, RoundPromise}
-use Rattle.contest.specs.Refusals.{TurnedAway, Rule, rule, chain, rulesOf, nowhere, stops}
+use Rattle.contest.specs.Refusals.{TurnedAway, rulesOf, Alone, alone, stops-at}
+use Rattle.contest.specs.Taken.{rulesFor, ruleAt, number-is}
 use Rattle.contest.specs.RowSettled.{turned-away}
 
 -- ## One answer, one row, one state of the words
@@ -47,7 +49,8 @@ said-once a b e = sym (answer-back a) ∙ ap answerOf e ∙ answer-back b
 
 -- No second answer, no other row and no other words meet the promise of a round.
 pub round-settled : {entry exit exit' : List Station} {lentEntry lentExit lentExit' : List ℕ} {a b : RoundAnswer}
-    → RoundPromise entry exit lentEntry lentExit a → RoundPromise entry exit' lentEntry lentExit' b → (a ≡ b) × (exit ≡ exit') × (lentExit ≡ lentExit')
+    → RoundPromise entry exit lentEntry lentExit a → RoundPromise entry exit' lentEntry lentExit' b
+    → (a ≡ b) × (exit ≡ exit') × (lentExit ≡ lentExit')
 round-settled {a} {b} p q =
     (said-once a b (settled (p .says-it) (q .says-it)), settled (p .leaves-it) (q .leaves-it), settled (p .lends-it) (q .lends-it))
 
@@ -58,7 +61,8 @@ pub says-number : (row : List Station) (lent : List ℕ) → roundSays row lent 
 unfolding roundSays taken
 says-number row lent = go (eqb (numberOf (round lent) row) 0) refl
   where
-    go : (t : Bool) → eqb (numberOf (round lent) row) 0 ≡ t → cond t (played (roundOf row)) (turnedAway (numberOf (round lent) row)) .number ≡ numberOf (round lent) row
+    go : (t : Bool) → eqb (numberOf (round lent) row) 0 ≡ t
+        → cond t (played (roundOf row)) (turnedAway (numberOf (round lent) row)) .number ≡ numberOf (round lent) row
     go true e = sym (eqb-true (numberOf (round lent) row) 0 e)
     go false e = refl
 
@@ -82,31 +86,27 @@ module _ {entry exit : List Station} {lentEntry lentExit : List ℕ} {a : RoundA
         answer = p .says-it ∙ rw (z, e);
       }
 
-  refusal : (n : ℕ) (before : List Rule) (t : Bool) (later : List Rule) → nowhere n before ≡ true → nowhere n later ≡ true → 1 ≤ n
-      → numberOf (round lentEntry) entry ≡ chain (before ++ (rule n t ∷ later))
-      → TurnedAway (toldNumber (a .told)) n (rulesOf before) t (AsItWas n entry exit lentEntry lentExit a)
-  refusal n before t later h k l e =
+  refusal : (k : ℕ) → 1 ≤ ruleAt (round lentEntry) entry k .number → Alone (rulesFor (round lentEntry) entry) k
+      → TurnedAway (toldNumber (a .told)) (ruleAt (round lentEntry) entry k .number) (rulesOf (take k (rulesFor (round lentEntry) entry)))
+      (ruleAt (round lentEntry) entry k .holds) (AsItWas (ruleAt (round lentEntry) entry k .number) entry exit lentEntry lentExit a)
+  refusal k l h =
       record {
-        exactly = rw (its-number, e) (stops before n t later h k);
-        unchanged = λ q. as-it-was n l (sym its-number ∙ q);
+        exactly = rw (its-number, number-is (round lentEntry) entry) (stops-at (rulesFor (round lentEntry) entry) k h);
+        unchanged = λ q. as-it-was (ruleAt (round lentEntry) entry k .number) l (sym its-number ∙ q);
       }
 
   -- 38: "row of 0 or over 32 stations"
   pub round-38 : TurnedAway (toldNumber (a .told)) 38 [] (rowSize entry) (AsItWas 38 entry exit lentEntry lentExit a)
-  unfolding numberOf
-  round-38 = refusal 38 [] (rowSize entry) (rule 39 (unsoundStation entry) ∷ rule 32 (fewWords lentEntry) ∷ rule 42 (nobodyWaiting entry) ∷ []) refl refl (omega arith) refl
+  round-38 = refusal 0 (omega arith) (alone refl refl refl)
 
   -- 39: "a station in the row with a stored length over 11 or a bad clock"
   pub round-39 : TurnedAway (toldNumber (a .told)) 39 (rowSize entry ∷ []) (unsoundStation entry) (AsItWas 39 entry exit lentEntry lentExit a)
-  unfolding numberOf
-  round-39 = refusal 39 (rule 38 (rowSize entry) ∷ []) (unsoundStation entry) (rule 32 (fewWords lentEntry) ∷ rule 42 (nobodyWaiting entry) ∷ []) refl refl (omega arith) refl
+  round-39 = refusal 1 (omega arith) (alone refl refl refl)
 
   -- 32: "lent words under 101"
   pub round-32 : TurnedAway (toldNumber (a .told)) 32 (rowSize entry ∷ unsoundStation entry ∷ []) (fewWords lentEntry) (AsItWas 32 entry exit lentEntry lentExit a)
-  unfolding numberOf
-  round-32 = refusal 32 (rule 38 (rowSize entry) ∷ rule 39 (unsoundStation entry) ∷ []) (fewWords lentEntry) (rule 42 (nobodyWaiting entry) ∷ []) refl refl (omega arith) refl
+  round-32 = refusal 2 (omega arith) (alone refl refl refl)
 
   -- 42: "nobody waiting"
   pub round-42 : TurnedAway (toldNumber (a .told)) 42 (rowSize entry ∷ unsoundStation entry ∷ fewWords lentEntry ∷ []) (nobodyWaiting entry) (AsItWas 42 entry exit lentEntry lentExit a)
-  unfolding numberOf
-  round-42 = refusal 42 (rule 38 (rowSize entry) ∷ rule 39 (unsoundStation entry) ∷ rule 32 (fewWords lentEntry) ∷ []) (nobodyWaiting entry) [] refl refl (omega arith) refl
+  round-42 = refusal 3 (omega arith) (alone refl refl refl)

@@ -2,10 +2,11 @@
 -- exactly when document 01 says so, with the row as it was.
 use Prim.Native.Nat.{ℕ, _≤_}
 use mathlib.Core.Path.{_≡_, refl, sym, ap, _∙_}
-use mathlib.Core.Bool.{Bool, true, cond}
-use mathlib.Core.List.{List, [], _∷_, _++_}
+use mathlib.Core.Bool.{cond}
+use mathlib.Core.List.{List, [], _∷_}
 use native.Mathlib.Omega.{arith}
 use lib.Dec.{eqb}
+use lib.ListN.{take}
 use borrow.Author.Tests.{ne-eqb}
 use Rattle.laws.specs.Settled.{settled}
 use Rattle.symbol.specs.declared.Clock.{Clock}
@@ -13,7 +14,8 @@ use Rattle.contest.specs.declared.Station.{Station}
 use Rattle.contest.specs.declared.Called.{Called}
 use Rattle.contest.specs.Calls.{Call, load, withdraw, setClock, rowSize, unsoundStation, noStation, badMessage, badClock, holding, nothingToWithdraw, numberOf, taken, after}
 use Rattle.contest.specs.Promises.{calledNumber, LoadPromise, WithdrawPromise, ClockPromise}
-use Rattle.contest.specs.Refusals.{TurnedAway, Rule, rule, chain, rulesOf, nowhere, stops}
+use Rattle.contest.specs.Refusals.{TurnedAway, rulesOf, Alone, alone, stops-at}
+use Rattle.contest.specs.Taken.{rulesFor, ruleAt, number-is}
 
 -- ## One answer, one row
 
@@ -64,80 +66,67 @@ pub turned-away : (c : Call) (row : List Station) (n : ℕ) → 1 ≤ n → numb
 unfolding after taken
 turned-away c row n h e = rw (ne-eqb (numberOf c row) 0 (λ z. omega arith))
 
-refusal : (c : Call) (n : ℕ) (before : List Rule) (t : Bool) (later : List Rule) {answered : ℕ} {entry exit : List Station}
-    → nowhere n before ≡ true → nowhere n later ≡ true → 1 ≤ n
-    → numberOf c entry ≡ chain (before ++ (rule n t ∷ later)) → answered ≡ numberOf c entry → exit ≡ after c entry
-    → TurnedAway answered n (rulesOf before) t (exit ≡ entry)
-refusal c n before t later {answered} {entry} {exit} h k l e a x =
+-- the rule at a place of the call's list turns it away, exactly when it holds and none before it does
+refusal : (c : Call) (k : ℕ) {answered : ℕ} {entry exit : List Station} → answered ≡ numberOf c entry → exit ≡ after c entry
+    → 1 ≤ ruleAt c entry k .number → Alone (rulesFor c entry) k
+    → TurnedAway answered (ruleAt c entry k .number) (rulesOf (take k (rulesFor c entry))) (ruleAt c entry k .holds) (exit ≡ entry)
+refusal c k {answered} {entry} {exit} a x l h =
     record {
-      exactly = rw (a, e) (stops before n t later h k);
-      unchanged = λ q. x ∙ turned-away c entry n l (sym a ∙ q);
+      exactly = rw (a, number-is c entry) (stops-at (rulesFor c entry) k h);
+      unchanged = λ q. x ∙ turned-away c entry (ruleAt c entry k .number) l (sym a ∙ q);
     }
 
 module _ {i : ℕ} {m : List ℕ} {entry exit : List Station} {a : Called} (p : LoadPromise i m entry exit a) where
   -- 38: "row of 0 or over 32 stations"
   pub load-38 : TurnedAway (calledNumber a) 38 [] (rowSize entry) (exit ≡ entry)
-  unfolding numberOf
-  load-38 = refusal (load i m) 38 [] (rowSize entry) (rule 39 (unsoundStation entry) ∷ rule 40 (noStation entry i) ∷ rule 37 (badMessage m) ∷ rule 41 (holding entry i) ∷ []) refl refl (omega arith) refl (p .answers-it) (p .leaves-it)
+  load-38 = refusal (load i m) 0 (p .answers-it) (p .leaves-it) (omega arith) (alone refl refl refl)
 
   -- 39: "a station in the row with a stored length over 11 or a bad clock"
   pub load-39 : TurnedAway (calledNumber a) 39 (rowSize entry ∷ []) (unsoundStation entry) (exit ≡ entry)
-  unfolding numberOf
-  load-39 = refusal (load i m) 39 (rule 38 (rowSize entry) ∷ []) (unsoundStation entry) (rule 40 (noStation entry i) ∷ rule 37 (badMessage m) ∷ rule 41 (holding entry i) ∷ []) refl refl (omega arith) refl (p .answers-it) (p .leaves-it)
+  load-39 = refusal (load i m) 1 (p .answers-it) (p .leaves-it) (omega arith) (alone refl refl refl)
 
   -- 40: "no such station"
   pub load-40 : TurnedAway (calledNumber a) 40 (rowSize entry ∷ unsoundStation entry ∷ []) (noStation entry i) (exit ≡ entry)
-  unfolding numberOf
-  load-40 = refusal (load i m) 40 (rule 38 (rowSize entry) ∷ rule 39 (unsoundStation entry) ∷ []) (noStation entry i) (rule 37 (badMessage m) ∷ rule 41 (holding entry i) ∷ []) refl refl (omega arith) refl (p .answers-it) (p .leaves-it)
+  load-40 = refusal (load i m) 2 (p .answers-it) (p .leaves-it) (omega arith) (alone refl refl refl)
 
   -- 37: "message empty .., or more than 12 bytes with checks"
   pub load-37 : TurnedAway (calledNumber a) 37 (rowSize entry ∷ unsoundStation entry ∷ noStation entry i ∷ []) (badMessage m) (exit ≡ entry)
-  unfolding numberOf
-  load-37 = refusal (load i m) 37 (rule 38 (rowSize entry) ∷ rule 39 (unsoundStation entry) ∷ rule 40 (noStation entry i) ∷ []) (badMessage m) (rule 41 (holding entry i) ∷ []) refl refl (omega arith) refl (p .answers-it) (p .leaves-it)
+  load-37 = refusal (load i m) 3 (p .answers-it) (p .leaves-it) (omega arith) (alone refl refl refl)
 
   -- 41: "that station already holds a message"
   pub load-41 : TurnedAway (calledNumber a) 41 (rowSize entry ∷ unsoundStation entry ∷ noStation entry i ∷ badMessage m ∷ []) (holding entry i) (exit ≡ entry)
-  unfolding numberOf
-  load-41 = refusal (load i m) 41 (rule 38 (rowSize entry) ∷ rule 39 (unsoundStation entry) ∷ rule 40 (noStation entry i) ∷ rule 37 (badMessage m) ∷ []) (holding entry i) [] refl refl (omega arith) refl (p .answers-it) (p .leaves-it)
+  load-41 = refusal (load i m) 4 (p .answers-it) (p .leaves-it) (omega arith) (alone refl refl refl)
 
 module _ {i : ℕ} {entry exit : List Station} {a : Called} (p : WithdrawPromise i entry exit a) where
   -- 38: "row of 0 or over 32 stations"
   pub withdraw-38 : TurnedAway (calledNumber a) 38 [] (rowSize entry) (exit ≡ entry)
-  unfolding numberOf
-  withdraw-38 = refusal (withdraw i) 38 [] (rowSize entry) (rule 39 (unsoundStation entry) ∷ rule 40 (noStation entry i) ∷ rule 42 (nothingToWithdraw entry i) ∷ []) refl refl (omega arith) refl (p .answers-it) (p .leaves-it)
+  withdraw-38 = refusal (withdraw i) 0 (p .answers-it) (p .leaves-it) (omega arith) (alone refl refl refl)
 
   -- 39: "a station in the row with a stored length over 11 or a bad clock"
   pub withdraw-39 : TurnedAway (calledNumber a) 39 (rowSize entry ∷ []) (unsoundStation entry) (exit ≡ entry)
-  unfolding numberOf
-  withdraw-39 = refusal (withdraw i) 39 (rule 38 (rowSize entry) ∷ []) (unsoundStation entry) (rule 40 (noStation entry i) ∷ rule 42 (nothingToWithdraw entry i) ∷ []) refl refl (omega arith) refl (p .answers-it) (p .leaves-it)
+  withdraw-39 = refusal (withdraw i) 1 (p .answers-it) (p .leaves-it) (omega arith) (alone refl refl refl)
 
   -- 40: "no such station"
   pub withdraw-40 : TurnedAway (calledNumber a) 40 (rowSize entry ∷ unsoundStation entry ∷ []) (noStation entry i) (exit ≡ entry)
-  unfolding numberOf
-  withdraw-40 = refusal (withdraw i) 40 (rule 38 (rowSize entry) ∷ rule 39 (unsoundStation entry) ∷ []) (noStation entry i) (rule 42 (nothingToWithdraw entry i) ∷ []) refl refl (omega arith) refl (p .answers-it) (p .leaves-it)
+  withdraw-40 = refusal (withdraw i) 2 (p .answers-it) (p .leaves-it) (omega arith) (alone refl refl refl)
 
   -- 42: "nothing to withdraw"
   pub withdraw-42 : TurnedAway (calledNumber a) 42 (rowSize entry ∷ unsoundStation entry ∷ noStation entry i ∷ []) (nothingToWithdraw entry i) (exit ≡ entry)
-  unfolding numberOf
-  withdraw-42 = refusal (withdraw i) 42 (rule 38 (rowSize entry) ∷ rule 39 (unsoundStation entry) ∷ rule 40 (noStation entry i) ∷ []) (nothingToWithdraw entry i) [] refl refl (omega arith) refl (p .answers-it) (p .leaves-it)
+  withdraw-42 = refusal (withdraw i) 3 (p .answers-it) (p .leaves-it) (omega arith) (alone refl refl refl)
 
 module _ {i : ℕ} {c : Clock} {entry exit : List Station} {a : Called} (p : ClockPromise i c entry exit a) where
   -- 38: "row of 0 or over 32 stations"
   pub clock-38 : TurnedAway (calledNumber a) 38 [] (rowSize entry) (exit ≡ entry)
-  unfolding numberOf
-  clock-38 = refusal (setClock i c) 38 [] (rowSize entry) (rule 39 (unsoundStation entry) ∷ rule 40 (noStation entry i) ∷ rule 36 (badClock c) ∷ []) refl refl (omega arith) refl (p .answers-it) (p .leaves-it)
+  clock-38 = refusal (setClock i c) 0 (p .answers-it) (p .leaves-it) (omega arith) (alone refl refl refl)
 
   -- 39: "a station in the row with a stored length over 11 or a bad clock"
   pub clock-39 : TurnedAway (calledNumber a) 39 (rowSize entry ∷ []) (unsoundStation entry) (exit ≡ entry)
-  unfolding numberOf
-  clock-39 = refusal (setClock i c) 39 (rule 38 (rowSize entry) ∷ []) (unsoundStation entry) (rule 40 (noStation entry i) ∷ rule 36 (badClock c) ∷ []) refl refl (omega arith) refl (p .answers-it) (p .leaves-it)
+  clock-39 = refusal (setClock i c) 1 (p .answers-it) (p .leaves-it) (omega arith) (alone refl refl refl)
 
   -- 40: "no such station"
   pub clock-40 : TurnedAway (calledNumber a) 40 (rowSize entry ∷ unsoundStation entry ∷ []) (noStation entry i) (exit ≡ entry)
-  unfolding numberOf
-  clock-40 = refusal (setClock i c) 40 (rule 38 (rowSize entry) ∷ rule 39 (unsoundStation entry) ∷ []) (noStation entry i) (rule 36 (badClock c) ∷ []) refl refl (omega arith) refl (p .answers-it) (p .leaves-it)
+  clock-40 = refusal (setClock i c) 2 (p .answers-it) (p .leaves-it) (omega arith) (alone refl refl refl)
 
   -- 36: "clock outside the sending windows"
   pub clock-36 : TurnedAway (calledNumber a) 36 (rowSize entry ∷ unsoundStation entry ∷ noStation entry i ∷ []) (badClock c) (exit ≡ entry)
-  unfolding numberOf
-  clock-36 = refusal (setClock i c) 36 (rule 38 (rowSize entry) ∷ rule 39 (unsoundStation entry) ∷ rule 40 (noStation entry i) ∷ []) (badClock c) [] refl refl (omega arith) refl (p .answers-it) (p .leaves-it)
+  clock-36 = refusal (setClock i c) 3 (p .answers-it) (p .leaves-it) (omega arith) (alone refl refl refl)

@@ -1,7 +1,7 @@
 -- A station of the row: document 01, "Each has a clock and 0 to 11 stored message bytes, 0 meaning empty."
 use Prim.Native.Nat.{ℕ}
-use mathlib.Core.Bool.{Bool, true, false, cond, _&&_}
-use mathlib.Core.List.{List, [], _∷_}
+use mathlib.Core.Bool.{Bool, cond, _&&_}
+use mathlib.Core.List.{List, []}
 use lib.Dec.{eqb, leb}
 use lib.ListN.{take, replicate}
 use Rattle.symbol.specs.Clocks.{goodOf, nominalClock}
@@ -22,6 +22,7 @@ mostStored = 11
 abbrev pub Bits : Type 0
 Bits = List Bool
 
+-- the bits that a message sends
 abbrev pub bitsSent : List ℕ → Bits
 bitsSent m = bitsOf (withCheck m)
 

@@ -5,14 +5,15 @@ use mathlib.Core.Bool.{Bool, true, false, cond, not, _&&_}
 use lib.Dec.{eqb}
 use borrow.Author.Tests.{lt-ltb, le-ltb, le-leb, lt-leb, eq-eqb, ne-eqb}
 use Rattle.checkbyte.specs.Register.{residue, stepOf as registerStep}
-use Rattle.framing.specs.declared.Fault.the-variants.{SplitByte, FewBytes, WrongCheck, ThirteenthByte}
+use Rattle.framing.specs.declared.Fault.the-variants.{NoSof, LateSof, SplitByte, FewBytes, WrongCheck, ThirteenthByte}
 use Rattle.framing.specs.Bits.{value}
 use Rattle.framing.specs.Faults.{mostBytes}
+use Rattle.frame.specs.declared.machine.Phase.the-variants.{Main}
 use Rattle.frame.specs.declared.machine.Machine.{Machine}
 use Rattle.frame.specs.declared.machine.Stepped.{Stepped}
 use Rattle.frame.specs.declared.machine.Event.the-variants.{Going, Byte}
 use Rattle.frame.specs.declared.machine.Asked.{Asked}
-use Rattle.frame.specs.Steps.{faulty, closing, pushOf, askedOf, eodOf, closeOf}
+use Rattle.frame.specs.Steps.{faulty, closing, begun, pushOf, responseBegun, partOf, sofPhase, bitOf, sofOf, askedOf, eodOf, closeOf}
 
 -- A bit of a byte. The bits of the byte so far are `bits`.
 module _ (m : Machine) (one : Bool) where
@@ -30,6 +31,17 @@ module _ (m : Machine) (one : Bool) where
       → _≡_ {A = Stepped} (record { machine = record { phase = m .phase; partial = 1; count = m .count + 1; began = m .began; register = r }; event = Byte byte }) (pushOf m one)
   unfolding pushOf
   push-whole v byte r h e s g k = rw (lt-leb mostBytes (m .count) h, sym e, le-ltb (m .partial * 2 + v) 256 s, k, g)
+
+-- A bit's width, and the SOF's, where `inside` and `first` are the answers of the two tests of the phase.
+module _ (m : Machine) where
+  pub bit-by : (one inside k first j : Bool) → inside ≡ partOf (m .phase) → inside ≡ k → first ≡ sofPhase (m .phase) → first ≡ j
+      → cond k (pushOf m one) (cond j (faulty m NoSof) (responseBegun m one)) ≡ bitOf m one
+  unfolding bitOf
+  bit-by one inside k first j e g f h = rw (sym e, g, sym f, h)
+
+  pub sof-by : (first j : Bool) → first ≡ sofPhase (m .phase) → first ≡ j → cond j (begun m Main) (faulty m LateSof) ≡ sofOf m
+  unfolding sofOf
+  sof-by first j f h = rw (sym f, h)
 
 -- An EOD or an end, where `a` is what is asked of the part and `wrong` whether its check byte is wrong.
 module _ (m : Machine) (eod : Bool) where

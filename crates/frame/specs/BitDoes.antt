@@ -110,7 +110,7 @@ bitSymbol true = Bit1
 bitSymbol false = Bit0
 
 pub bit-does : (st : Standing) (one : Bool) → length (soFar st) ≤ mostBytes → Does st (bitSymbol one) (bitOf (holding st) one)
-unfolding fault holding leftOver behind registerFrom bytes
+unfolding bitOf fault holding leftOver behind registerFrom bytes
 bit-does atSof true h = faults NoSof refl refl
 bit-does atSof false h = faults NoSof refl refl
 bit-does (inMain m) true h = bit-part (inMain m) Bit1 true refl refl h (in-main m true)

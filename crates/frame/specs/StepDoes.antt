@@ -24,7 +24,7 @@ unfolding holding leftOver behind registerFrom bytes
 fresh-holds = refl
 
 sof-does : (st : Standing) → Does st SofWidth (sofOf (holding st))
-unfolding fault holding leftOver behind registerFrom bytes
+unfolding sofOf fault holding leftOver behind registerFrom bytes
 sof-does atSof = goes refl refl refl refl
 sof-does (inMain m) = faults LateSof refl refl
 sof-does (atNormalization m) = faults LateSof refl refl

@@ -16,6 +16,8 @@ use Rattle.frame.specs.declared.machine.Event.{Event}
 use Rattle.frame.specs.declared.machine.Event.the-variants.{Going, Byte, Closed, Faulty}
 use Rattle.frame.specs.declared.machine.Stepped.{Stepped}
 use Rattle.frame.specs.declared.machine.Asked.{Asked}
+use Rattle.frame.specs.declared.machine.Meaning.{Meaning}
+use Rattle.frame.specs.declared.machine.Meaning.the-variants.{Bit, Shut, Sof as Start, Wrong}
 
 -- the machine before the SOF
 abbrev pub fresh : Machine
@@ -50,25 +52,25 @@ pushOf m one = cond (leb mostBytes (m .count)) (faulty m ThirteenthByte) (pushed
 abbrev pub responseBegun : Machine → Bool → Stepped
 responseBegun m one = cond one (begun m Plain) (begun m Checked)
 
-abbrev pub bitIn : Phase → Machine → Bool → Stepped
-bitIn Sof m one = faulty m NoSof
-bitIn Main m one = pushOf m one
-bitIn Normalization m one = responseBegun m one
-bitIn Plain m one = pushOf m one
-bitIn Checked m one = pushOf m one
+abbrev pub partOf : Phase → Bool
+partOf Sof = false
+partOf Main = true
+partOf Normalization = false
+partOf Plain = true
+partOf Checked = true
 
-abbrev pub bitOf : Machine → Bool → Stepped
-bitOf m one = bitIn (m .phase) m one
+abbrev pub sofPhase : Phase → Bool
+sofPhase Sof = true
+sofPhase Main = false
+sofPhase Normalization = false
+sofPhase Plain = false
+sofPhase Checked = false
 
-abbrev pub sofIn : Phase → Machine → Stepped
-sofIn Sof m = begun m Main
-sofIn Main m = faulty m LateSof
-sofIn Normalization m = faulty m LateSof
-sofIn Plain m = faulty m LateSof
-sofIn Checked m = faulty m LateSof
+unfoldable pub bitOf : Machine → Bool → Stepped
+bitOf m one = cond (partOf (m .phase)) (pushOf m one) (cond (sofPhase (m .phase)) (faulty m NoSof) (responseBegun m one))
 
-abbrev pub sofOf : Machine → Stepped
-sofOf m = sofIn (m .phase) m
+unfoldable pub sofOf : Machine → Stepped
+sofOf m = cond (sofPhase (m .phase)) (begun m Main) (faulty m LateSof)
 
 abbrev pub askedOf : Phase → Asked
 askedOf Sof = record { fewest = 0; checked = false }
@@ -94,14 +96,24 @@ closeOf m eod =
     (cond (askedOf (m .phase) .checked && not (eqb (m .register) residue)) (faulty m WrongCheck)
     (cond eod (eodOf m) (closing m))))
 
+-- what a symbol means inside a frame
+abbrev pub meaningOf : Symbol → Meaning
+meaningOf NoiseWidth = Wrong Noise
+meaningOf Bit0 = Bit false
+meaningOf Bit1 = Bit true
+meaningOf Eod = Shut true
+meaningOf SofWidth = Start
+meaningOf Eof = Shut false
+meaningOf Ifs = Shut false
+meaningOf BreakWidth = Wrong Break
+meaningOf StuckWidth = Wrong Stuck
+
+abbrev pub stepBy : Machine → Meaning → Stepped
+stepBy m (Bit one) = bitOf m one
+stepBy m (Shut eod) = closeOf m eod
+stepBy m Start = sofOf m
+stepBy m (Wrong f) = faulty m f
+
 -- one symbol more
 abbrev pub stepOf : Machine → Symbol → Stepped
-stepOf m NoiseWidth = faulty m Noise
-stepOf m Bit0 = bitOf m false
-stepOf m Bit1 = bitOf m true
-stepOf m Eod = closeOf m true
-stepOf m SofWidth = sofOf m
-stepOf m Eof = closeOf m false
-stepOf m Ifs = closeOf m false
-stepOf m BreakWidth = faulty m Break
-stepOf m StuckWidth = faulty m Stuck
+stepOf m s = stepBy m (meaningOf s)

@@ -6,7 +6,7 @@ ghost use Prim.Native.Nat.{_<_};
 ghost use lib.Dec.{eqb};
 ghost use Rattle.checkbyte.specs.Register.{residue};
 ghost use Rattle.framing.specs.Bits.{value};
-ghost use Rattle.frame.specs.Steps.{faulty, closing, begun, pushOf, responseBegun, bitOf, sofOf, askedOf, eodOf, closeOf, stepOf, fresh};
+ghost use Rattle.frame.specs.Steps.{faulty, closing, begun, pushOf, responseBegun, partOf, sofPhase, bitOf, sofOf, askedOf, eodOf, closeOf, meaningOf, stepOf, fresh};
 use framing::Fault;
 use symbol::Symbol;
 
@@ -48,6 +48,14 @@ pub struct Stepped {
 struct Asked {
     fewest: u8,
     checked: bool,
+}
+
+// What a symbol means inside a frame: a bit's width, an EOD or an end, the SOF's width, or what stands in no frame.
+enum Meaning {
+    Bit(bool),
+    Shut(bool),
+    Sof,
+    Wrong(Fault),
 }
 
 // All bytes of a frame together are at most so many.
@@ -178,18 +186,44 @@ fn begin_response(machine: Machine, one: bool) -> Stepped
     begin(machine, Phase::Checked)
 }
 
-// A bit's width: no SOF where one should be, the normalization bit, or a bit of a byte.
+// Whether a phase is one of a part's bytes.
+fn in_part(phase: Phase) -> bool
+    ensures { λ r. ⌜ r ≡ partOf phase ⌝ }
+{
+    match phase {
+        Phase::Sof => false,
+        Phase::Main => true,
+        Phase::Normalization => false,
+        Phase::Plain => true,
+        Phase::Checked => true,
+    }
+}
+
+// Whether a phase is the SOF's.
+fn at_sof(phase: Phase) -> bool
+    ensures { λ r. ⌜ r ≡ sofPhase phase ⌝ }
+{
+    match phase {
+        Phase::Sof => true,
+        Phase::Main => false,
+        Phase::Normalization => false,
+        Phase::Plain => false,
+        Phase::Checked => false,
+    }
+}
+
+// A bit's width: a bit of a byte, no SOF where one should be, or the normalization bit.
 fn bit(machine: Machine, one: bool) -> Stepped
     ensures { λ r. ⌜ r ≡ bitOf machine one ⌝ }
 {
     let phase = machine.phase;
-    match phase {
-        Phase::Sof => fail(machine, Fault::NoSof),
-        Phase::Main => push(machine, one),
-        Phase::Normalization => begin_response(machine, one),
-        Phase::Plain => push(machine, one),
-        Phase::Checked => push(machine, one),
+    if in_part(phase) {
+        return push(machine, one);
     }
+    if at_sof(phase) {
+        return fail(machine, Fault::NoSof);
+    }
+    begin_response(machine, one)
 }
 
 // The SOF's width: the SOF, or a fault anywhere behind it.
@@ -197,13 +231,10 @@ fn sof(machine: Machine) -> Stepped
     ensures { λ r. ⌜ r ≡ sofOf machine ⌝ }
 {
     let phase = machine.phase;
-    match phase {
-        Phase::Sof => begin(machine, Phase::Main),
-        Phase::Main => fail(machine, Fault::LateSof),
-        Phase::Normalization => fail(machine, Fault::LateSof),
-        Phase::Plain => fail(machine, Fault::LateSof),
-        Phase::Checked => fail(machine, Fault::LateSof),
+    if at_sof(phase) {
+        return begin(machine, Phase::Main);
     }
+    fail(machine, Fault::LateSof)
 }
 
 // What is asked of the part that closes. The places of the SOF and of the normalization bit are active, where no EOD or
@@ -280,19 +311,32 @@ fn close_part(machine: Machine, eod: bool) -> Stepped
     close(machine)
 }
 
+// What a symbol means inside a frame.
+fn meaning_of(symbol: Symbol) -> Meaning
+    ensures { λ r. ⌜ r ≡ meaningOf symbol ⌝ }
+{
+    match symbol {
+        Symbol::Noise => Meaning::Wrong(Fault::Noise),
+        Symbol::Bit0 => Meaning::Bit(false),
+        Symbol::Bit1 => Meaning::Bit(true),
+        Symbol::Eod => Meaning::Shut(true),
+        Symbol::Sof => Meaning::Sof,
+        Symbol::Eof => Meaning::Shut(false),
+        Symbol::Ifs => Meaning::Shut(false),
+        Symbol::Break => Meaning::Wrong(Fault::Break),
+        Symbol::Stuck => Meaning::Wrong(Fault::Stuck),
+    }
+}
+
 // One symbol more.
 pub fn step(machine: Machine, symbol: Symbol) -> Stepped
     ensures { λ r. ⌜ r ≡ stepOf machine symbol ⌝ }
 {
-    match symbol {
-        Symbol::Noise => fail(machine, Fault::Noise),
-        Symbol::Bit0 => bit(machine, false),
-        Symbol::Bit1 => bit(machine, true),
-        Symbol::Eod => close_part(machine, true),
-        Symbol::Sof => sof(machine),
-        Symbol::Eof => close_part(machine, false),
-        Symbol::Ifs => close_part(machine, false),
-        Symbol::Break => fail(machine, Fault::Break),
-        Symbol::Stuck => fail(machine, Fault::Stuck),
+    let meaning = meaning_of(symbol);
+    match meaning {
+        Meaning::Bit(one) => bit(machine, one),
+        Meaning::Shut(eod) => close_part(machine, eod),
+        Meaning::Sof => sof(machine),
+        Meaning::Wrong(fault) => fail(machine, fault),
     }
 }

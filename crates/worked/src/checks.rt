@@ -11,7 +11,7 @@ fn vector(message: &[u8]) {
 
 // Document 01's five messages; then "123456789", which catalogues of check codes give for CRC-8/SAE-J1850 as 4B; then
 // the seven that AUTOSAR's specification of its CRC library lists for this code.
-pub fn vectors() {
+pub(crate) fn vectors() {
     vector(&[0x00]);
     vector(&[0xFF]);
     vector(&[0xFF, 0xFF]);
@@ -28,7 +28,7 @@ pub fn vectors() {
 }
 
 // The check bytes of all messages of one byte, sixteen to a line.
-pub fn single_bytes() {
+pub(crate) fn single_bytes() {
     for high in 0..16u8 {
         row(high * 16);
     }

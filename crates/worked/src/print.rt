@@ -1,11 +1,11 @@
 // Words, numbers and bytes on standard output.
 use libc::STDOUT_FILENO;
 
-pub fn word(text: &[u8]) {
+pub(crate) fn word(text: &[u8]) {
     io::write_all(STDOUT_FILENO, text);
 }
 
-pub fn number(n: u32) {
+pub(crate) fn number(n: u32) {
     io::print_decimal(STDOUT_FILENO, n as u64);
 }
 
@@ -16,18 +16,18 @@ fn digit(half: u8) -> u8 {
 }
 
 // A byte as two digits of upper-case hex.
-pub fn byte(b: u8) {
+pub(crate) fn byte(b: u8) {
     let text = [digit(b / 16), digit(b)];
     word(&text);
 }
 
-pub fn bytes(bs: &[u8]) {
+pub(crate) fn bytes(bs: &[u8]) {
     for i in 0..bs.len() {
         byte(bs[i]);
     }
 }
 
-pub fn level(active: bool) {
+pub(crate) fn level(active: bool) {
     if active {
         word(b"active");
     } else {

@@ -51,7 +51,7 @@ fn begins(active: bool, width: u32) {
 }
 
 // Every width up to the last tried, with a line for each at which the symbol changes; then the widest that there is.
-pub fn windows(active: bool) {
+pub(crate) fn windows(active: bool) {
     begins(active, 0);
     let mut width: u32 = 0;
     while width < LAST_TRIED {
@@ -148,7 +148,7 @@ fn sending_window(which: u8) {
 }
 
 // The sending windows, each found by one width of a clock that is otherwise nominal.
-pub fn clocks() {
+pub(crate) fn clocks() {
     sending_window(0);
     sending_window(1);
     sending_window(2);
@@ -170,7 +170,7 @@ fn width_sent(active: bool, s: Symbol) {
 }
 
 // What the nominal clock sends for each symbol at a level.
-pub fn widths_sent(active: bool) {
+pub(crate) fn widths_sent(active: bool) {
     width_sent(active, Symbol::Noise);
     width_sent(active, Symbol::Bit0);
     width_sent(active, Symbol::Bit1);
