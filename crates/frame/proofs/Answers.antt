@@ -62,16 +62,20 @@ laid-first n kept lent h =
 
 -- ## Quiet
 
-module _ (ws : List ℕ) (p : ℕ) (lent : List ℕ) where
-  pub quiet-meets : opening ws p ≡ nowhere → Meets (readBy (opening ws p) ws p) lent lent (Quiet (placed p))
+module _ (ws : List ℕ) (p : ℕ) (entry : List ℕ) where
+  pub quiet-meets : opening ws p ≡ nowhere → Meets (readBy (opening ws p) ws p) entry entry (Quiet (placed p))
   quiet-meets e = rw e (record { tells-it = refl; lends-it = refl })
 
-  pub alone-meets : (o : ℕ) → opening ws p ≡ at o → length ws ≤ o + 1 → Meets (readBy (opening ws p) ws p) lent lent (Quiet (placed p))
-  alone-meets o e h = rw (e, le-leb (length ws) (o + 1) h) (record { tells-it = refl; lends-it = refl })
+  pub alone-meets : (o : ℕ) → length ws ≤ o + 1 → Meets (readBy (at o) ws p) entry entry (Quiet (placed p))
+  alone-meets o h = rw (le-leb (length ws) (o + 1) h) (record { tells-it = refl; lends-it = refl })
 
-  pub opened-meets : (o : ℕ) (exit : List ℕ) (r : Reading) → opening ws p ≡ at o → o + 1 < length ws → Meets (decided ws o) lent exit r
-      → Meets (readBy (opening ws p) ws p) lent exit r
-  opened-meets o exit r e h v = rw (e, lt-leb (length ws) (o + 1) h) v
+  pub followed-meets : (o : ℕ) (exit : List ℕ) (r : Reading) → o + 1 < length ws → Meets (decided ws o) entry exit r
+      → Meets (readBy (at o) ws p) entry exit r
+  followed-meets o exit r h v = rw (lt-leb (length ws) (o + 1) h) v
+
+  pub opened-meets : (o : ℕ) (exit : List ℕ) (r : Reading) → opening ws p ≡ at o → Meets (readBy (at o) ws p) entry exit r
+      → Meets (readBy (opening ws p) ws p) entry exit r
+  opened-meets o exit r e v = rw e v
 
 -- ## The refusals, and the promise
 

@@ -2,8 +2,9 @@
 use Prim.Native.Nat.{ℕ, _+_, _-_, _*_, _≤_, _<_}
 use mathlib.Core.Path.{_≡_, refl, sym}
 use mathlib.Core.Bool.{Bool, true, false, cond, not, _&&_}
-use lib.Dec.{eqb}
-use borrow.Author.Tests.{lt-ltb, le-ltb, le-leb, lt-leb, eq-eqb, ne-eqb}
+use native.Mathlib.Omega.{arith}
+use lib.Dec.{eqb, ltb}
+use borrow.Author.Tests.{lt-ltb, le-ltb, ltb-true, ltb-false, le-leb, lt-leb, eq-eqb, ne-eqb}
 use Rattle.checkbyte.specs.Register.{residue, stepOf as registerStep}
 use Rattle.framing.specs.declared.Fault.the-variants.{NoSof, LateSof, SplitByte, FewBytes, WrongCheck, ThirteenthByte}
 use Rattle.framing.specs.Bits.{value}
@@ -14,6 +15,17 @@ use Rattle.frame.specs.declared.machine.Stepped.{Stepped}
 use Rattle.frame.specs.declared.machine.Event.the-variants.{Going, Byte}
 use Rattle.frame.specs.declared.machine.Asked.{Asked}
 use Rattle.frame.specs.Steps.{faulty, closing, begun, pushOf, responseBegun, partOf, sofPhase, bitOf, sofOf, askedOf, eodOf, closeOf}
+
+-- The bytes of a part, counted without a sum that might not fit.
+pub few-short : (count began fewest : ℕ) → count < fewest → true ≡ ltb count (began + fewest)
+few-short count began fewest h = sym (lt-ltb count (began + fewest) (omega arith))
+
+pub few-by : (count began fewest : ℕ) → fewest ≤ count → ltb (count - fewest) began ≡ ltb count (began + fewest)
+few-by count began fewest h = go (ltb (count - fewest) began) refl
+  where
+    go : (b : Bool) → ltb (count - fewest) began ≡ b → b ≡ ltb count (began + fewest)
+    go true e = sym (lt-ltb count (began + fewest) (omega (arith, ltb-true (count - fewest) began e)))
+    go false e = sym (le-ltb count (began + fewest) (omega (arith, ltb-false (count - fewest) began e)))
 
 -- A bit of a byte. The bits of the byte so far are `bits`.
 module _ (m : Machine) (one : Bool) where
@@ -49,13 +61,14 @@ module _ (m : Machine) (eod : Bool) where
   unfolding closeOf
   close-split h = rw (ne-eqb (m .partial) 1 h)
 
-  pub close-few : (a : Asked) → a ≡ askedOf (m .phase) → m .partial ≡ 1 → m .count < m .began + a .fewest → faulty m FewBytes ≡ closeOf m eod
+  pub close-few : (a : Asked) (few : Bool) → a ≡ askedOf (m .phase) → m .partial ≡ 1 → few ≡ ltb (m .count) (m .began + a .fewest) → few ≡ true
+      → faulty m FewBytes ≡ closeOf m eod
   unfolding closeOf
-  close-few a e h s = rw (eq-eqb (m .partial) 1 h, sym e, lt-ltb (m .count) (m .began + a .fewest) s)
+  close-few a few e h f t = rw (eq-eqb (m .partial) 1 h, sym e, sym f, t)
 
-  pub close-judged : (a : Asked) (wrong k : Bool) → a ≡ askedOf (m .phase) → m .partial ≡ 1 → m .began + a .fewest ≤ m .count
+  pub close-judged : (a : Asked) (wrong k : Bool) → a ≡ askedOf (m .phase) → m .partial ≡ 1
+      → (few : Bool) → few ≡ ltb (m .count) (m .began + a .fewest) → few ≡ false
       → wrong ≡ (a .checked && not (eqb (m .register) residue)) → wrong ≡ k → (d : Bool) → eod ≡ d
       → cond k (faulty m WrongCheck) (cond d (eodOf m) (closing m)) ≡ closeOf m eod
   unfolding closeOf
-  close-judged a wrong k e h s g t d f =
-      rw (eq-eqb (m .partial) 1 h, sym e, le-ltb (m .count) (m .began + a .fewest) s, sym g, t, f)
+  close-judged a wrong k e h few f t g u d x = rw (eq-eqb (m .partial) 1 h, sym e, sym f, t, sym g, u, x)

@@ -54,15 +54,15 @@ responseBegun m one = cond one (begun m Plain) (begun m Checked)
 
 abbrev pub partOf : Phase → Bool
 partOf Sof = false
-partOf Main = true
 partOf Normalization = false
+partOf Main = true
 partOf Plain = true
 partOf Checked = true
 
 abbrev pub sofPhase : Phase → Bool
 sofPhase Sof = true
-sofPhase Main = false
 sofPhase Normalization = false
+sofPhase Main = false
 sofPhase Plain = false
 sofPhase Checked = false
 
@@ -72,17 +72,20 @@ bitOf m one = cond (partOf (m .phase)) (pushOf m one) (cond (sofPhase (m .phase)
 unfoldable pub sofOf : Machine → Stepped
 sofOf m = cond (sofPhase (m .phase)) (begun m Main) (faulty m LateSof)
 
+abbrev pub asking : ℕ → Bool → Asked
+asking fewest checked = record { fewest = fewest; checked = checked }
+
 abbrev pub askedOf : Phase → Asked
-askedOf Sof = record { fewest = 0; checked = false }
-askedOf Main = record { fewest = 2; checked = true }
-askedOf Normalization = record { fewest = 0; checked = false }
-askedOf Plain = record { fewest = 1; checked = false }
-askedOf Checked = record { fewest = 2; checked = true }
+askedOf Sof = asking 0 false
+askedOf Normalization = asking 0 false
+askedOf Main = asking 2 true
+askedOf Plain = asking 1 false
+askedOf Checked = asking 2 true
 
 abbrev pub eodIn : Phase → Machine → Stepped
 eodIn Sof m = begun m Main
-eodIn Main m = begun m Normalization
 eodIn Normalization m = begun m Checked
+eodIn Main m = begun m Normalization
 eodIn Plain m = faulty m EodAfterResponse
 eodIn Checked m = faulty m EodAfterResponse
 

@@ -9,7 +9,7 @@ ghost use mathlib.Core.Path.{_≡_};
 ghost use Prim.Native.Nat.{_≤_, _<_};
 ghost use lib.ListN.{length};
 ghost use Rattle.framing.specs.Faults.{mostBytes};
-ghost use Rattle.framing.specs.Line.{opening as openingOf};
+ghost use Rattle.framing.specs.Line.{at, opening as openingOf};
 ghost use Rattle.framing.specs.Reading.{decided, readBy};
 ghost use Rattle.framing.specs.Answers.{ReadPromise};
 ghost use Rattle.frame.specs.Answering.{foundBy, frameOf, framedOf, laid, Meets};
@@ -53,12 +53,12 @@ fn framed(machine: Machine, opening: usize, closing: usize) -> Reading
     ensures { λ r. ⌜ r ≡ framedOf machine opening closing ⌝ }
 {
     let phase = machine.phase;
-    let count = machine.count as usize;
-    let began = machine.began as usize;
+    let count = machine.count;
+    let began = machine.began;
     match phase {
         Phase::Sof => whole(count, 0, Response::Without, opening, closing),
-        Phase::Main => whole(count, 0, Response::Without, opening, closing),
         Phase::Normalization => whole(count, 0, Response::Without, opening, closing),
+        Phase::Main => whole(count, 0, Response::Without, opening, closing),
         Phase::Plain => whole(began, count - began, Response::Plain, opening, closing),
         Phase::Checked => whole(began, count - began, Response::Checked, opening, closing),
     }
@@ -96,7 +96,7 @@ fn read_open(intervals: &[u32], opening: usize, lent: &mut [u8]) -> Reading
     let mut i = opening + 1;
     while i < intervals.len() {
         let symbol = symbol::class(i % 2 == 1, Micros(intervals[i]));
-        let at = held.count as usize;
+        let at = held.count;
         let stepped = machine::step(held, symbol);
         let event = stepped.event;
         let next = stepped.machine;
@@ -107,7 +107,7 @@ fn read_open(intervals: &[u32], opening: usize, lent: &mut [u8]) -> Reading
                 kept[at] = byte;
             }
             Event::Closed => {
-                let count = held.count as usize;
+                let count = held.count;
                 lay(kept, count, lent);
                 return framed(held, opening, i);
             }
@@ -125,7 +125,19 @@ fn read_open(intervals: &[u32], opening: usize, lent: &mut [u8]) -> Reading
     }
 }
 
-// Reading from a position within the recording.
+// Reading from a position where the opening is found: quiet, if no interval stands behind it.
+fn read_found(intervals: &[u32], from: usize, opening: usize, lent: &mut [u8]) -> Reading
+    requires { ⌜ opening < length (now intervals) ⌝ }
+    requires { ⌜ mostBytes ≤ length (now lent) ⌝ }
+    ensures { λ r. ⌜ Meets (readBy (at opening) (now (intervals .entry)) from) (now (lent .entry)) (now (lent .exit)) r ⌝ }
+{
+    if intervals.len() <= opening + 1 {
+        return Reading::Quiet { next: Place(from) };
+    }
+    read_open(intervals, opening, lent)
+}
+
+// Reading from a position within the recording: quiet, if there is no opening.
 fn read_from(intervals: &[u32], from: usize, lent: &mut [u8]) -> Reading
     requires { ⌜ from ≤ length (now intervals) ⌝ }
     requires { ⌜ mostBytes ≤ length (now lent) ⌝ }
@@ -134,12 +146,7 @@ fn read_from(intervals: &[u32], from: usize, lent: &mut [u8]) -> Reading
     let found = opening(intervals, from);
     match found {
         Found::Nowhere => Reading::Quiet { next: Place(from) },
-        Found::At(o) => {
-            if intervals.len() <= o + 1 {
-                return Reading::Quiet { next: Place(from) };
-            }
-            read_open(intervals, o, lent)
-        }
+        Found::At(o) => read_found(intervals, from, o, lent),
     }
 }
 

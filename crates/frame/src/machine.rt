@@ -2,32 +2,32 @@
 // goes on, has one byte more, is closed, or is at fault. It sees no widths and keeps no bytes: whoever drives it does.
 ghost use mathlib.Core.Path.{_≡_};
 ghost use mathlib.Core.Bool.{_&&_, not};
-ghost use Prim.Native.Nat.{_<_};
-ghost use lib.Dec.{eqb};
+ghost use Prim.Native.Nat.{_+_, _<_};
+ghost use lib.Dec.{eqb, ltb};
 ghost use Rattle.checkbyte.specs.Register.{residue};
 ghost use Rattle.framing.specs.Bits.{value};
-ghost use Rattle.frame.specs.Steps.{faulty, closing, begun, pushOf, responseBegun, partOf, sofPhase, bitOf, sofOf, askedOf, eodOf, closeOf, meaningOf, stepOf, fresh};
+ghost use Rattle.frame.specs.Steps.{faulty, closing, begun, pushOf, responseBegun, partOf, sofPhase, bitOf, sofOf, asking, askedOf, eodOf, closeOf, meaningOf, stepOf, fresh};
 use framing::Fault;
 use symbol::Symbol;
 
-// Where the next interval stands in the frame: at the SOF's place, in the main part, at the place of the normalization
-// bit, or in a response without or with a check byte.
+// Where the next interval stands in the frame: at the place of the SOF or of the normalization bit, in the main part, or
+// in a response without or with a check byte.
 pub enum Phase {
     Sof,
-    Main,
     Normalization,
+    Main,
     Plain,
     Checked,
 }
 
-// What is known of a frame between two intervals: the bits of a byte that is not whole yet, behind a leading 1; how many
-// bytes both parts have so far, and how many of them stand before this part; and the check register over this part.
+// What is known of a frame between two intervals: the bits of a byte that is not whole yet, behind a leading 1; the check
+// register over this part; and how many bytes both parts have so far, and how many of them stand before this part.
 pub struct Machine {
     pub phase: Phase,
     pub partial: u8,
-    pub count: u8,
-    pub began: u8,
     pub register: u8,
+    pub count: usize,
+    pub began: usize,
 }
 
 // What a symbol does to a frame.
@@ -38,15 +38,16 @@ pub enum Event {
     Faulty(Fault),
 }
 
-// What a symbol does, and what is known of the frame behind it.
+// What a symbol does, and what is known of the frame behind it. The event stands first, and each piece below is called
+// from one place: so the compiler keeps all of it in registers, and reading is half as long as it is otherwise.
 pub struct Stepped {
-    pub machine: Machine,
     pub event: Event,
+    pub machine: Machine,
 }
 
 // What is asked of a part at its EOD or end: how many bytes at least, and whether the last of them is a check byte.
 struct Asked {
-    fewest: u8,
+    fewest: usize,
     checked: bool,
 }
 
@@ -62,11 +63,11 @@ enum Meaning {
 pub const MOST_BYTES: usize = 12;
 
 // The fewest bytes of each part, its check byte included.
-const FEWEST_MAIN: u8 = 2;
+const FEWEST_MAIN: usize = 2;
 
-const FEWEST_PLAIN: u8 = 1;
+const FEWEST_PLAIN: usize = 1;
 
-const FEWEST_CHECKED: u8 = 2;
+const FEWEST_CHECKED: usize = 2;
 
 // A partial byte that has no bit yet, and what a whole byte's leading 1 counts.
 const NO_BITS: u8 = 1;
@@ -80,9 +81,9 @@ pub fn start() -> Machine
     Machine {
         phase: Phase::Sof,
         partial: NO_BITS,
+        register: checkbyte::ALL_ONES,
         count: 0,
         began: 0,
-        register: checkbyte::ALL_ONES,
     }
 }
 
@@ -107,8 +108,8 @@ fn fail(machine: Machine, fault: Fault) -> Stepped
     ensures { λ r. ⌜ r ≡ faulty machine fault ⌝ }
 {
     Stepped {
-        machine,
         event: Event::Faulty(fault),
+        machine,
     }
 }
 
@@ -117,8 +118,8 @@ fn close(machine: Machine) -> Stepped
     ensures { λ r. ⌜ r ≡ closing machine ⌝ }
 {
     Stepped {
-        machine,
         event: Event::Closed,
+        machine,
     }
 }
 
@@ -126,16 +127,16 @@ fn close(machine: Machine) -> Stepped
 fn begin(machine: Machine, phase: Phase) -> Stepped
     ensures { λ r. ⌜ r ≡ begun machine phase ⌝ }
 {
-    let count = machine.count;
+    let so_far = machine.count;
     Stepped {
+        event: Event::Going,
         machine: Machine {
             phase,
             partial: NO_BITS,
-            count,
-            began: count,
             register: checkbyte::ALL_ONES,
+            count: so_far,
+            began: so_far,
         },
-        event: Event::Going,
     }
 }
 
@@ -147,32 +148,32 @@ fn push(machine: Machine, one: bool) -> Stepped
     let count = machine.count;
     let began = machine.began;
     let register = machine.register;
-    if MOST_BYTES <= count as usize {
+    if MOST_BYTES <= count {
         return fail(machine, Fault::ThirteenthByte);
     }
     let bits = machine.partial as usize * 2 + number(one);
     if bits < WHOLE {
         return Stepped {
+            event: Event::Going,
             machine: Machine {
                 phase,
                 partial: low(bits),
+                register,
                 count,
                 began,
-                register,
             },
-            event: Event::Going,
         };
     }
     let byte = low(bits - WHOLE);
     Stepped {
+        event: Event::Byte(byte),
         machine: Machine {
             phase,
             partial: NO_BITS,
+            register: checkbyte::step(register, byte),
             count: count + 1,
             began,
-            register: checkbyte::step(register, byte),
         },
-        event: Event::Byte(byte),
     }
 }
 
@@ -192,8 +193,8 @@ fn in_part(phase: Phase) -> bool
 {
     match phase {
         Phase::Sof => false,
-        Phase::Main => true,
         Phase::Normalization => false,
+        Phase::Main => true,
         Phase::Plain => true,
         Phase::Checked => true,
     }
@@ -205,8 +206,8 @@ fn at_sof(phase: Phase) -> bool
 {
     match phase {
         Phase::Sof => true,
-        Phase::Main => false,
         Phase::Normalization => false,
+        Phase::Main => false,
         Phase::Plain => false,
         Phase::Checked => false,
     }
@@ -237,32 +238,24 @@ fn sof(machine: Machine) -> Stepped
     fail(machine, Fault::LateSof)
 }
 
+// What is asked of a part.
+fn ask(fewest: usize, checked: bool) -> Asked
+    ensures { λ r. ⌜ r ≡ asking fewest checked ⌝ }
+{
+    Asked { fewest, checked }
+}
+
 // What is asked of the part that closes. The places of the SOF and of the normalization bit are active, where no EOD or
 // end can stand: nothing is asked there, here and below.
 fn asked_of(phase: Phase) -> Asked
     ensures { λ r. ⌜ r ≡ askedOf phase ⌝ }
 {
     match phase {
-        Phase::Sof => Asked {
-            fewest: 0,
-            checked: false,
-        },
-        Phase::Main => Asked {
-            fewest: FEWEST_MAIN,
-            checked: true,
-        },
-        Phase::Normalization => Asked {
-            fewest: 0,
-            checked: false,
-        },
-        Phase::Plain => Asked {
-            fewest: FEWEST_PLAIN,
-            checked: false,
-        },
-        Phase::Checked => Asked {
-            fewest: FEWEST_CHECKED,
-            checked: true,
-        },
+        Phase::Sof => ask(0, false),
+        Phase::Normalization => ask(0, false),
+        Phase::Main => ask(FEWEST_MAIN, true),
+        Phase::Plain => ask(FEWEST_PLAIN, false),
+        Phase::Checked => ask(FEWEST_CHECKED, true),
     }
 }
 
@@ -276,6 +269,16 @@ fn wrong_check(checked: bool, register: u8) -> bool
     false
 }
 
+// Whether a part has fewer bytes than are asked of it.
+fn too_few(count: usize, began: usize, fewest: usize) -> bool
+    ensures { λ r. ⌜ r ≡ ltb count (began + fewest) ⌝ }
+{
+    if count < fewest {
+        return true;
+    }
+    count - fewest < began
+}
+
 // What follows an EOD that is not at fault itself: a response behind the main part, and nothing behind a response.
 fn behind_eod(machine: Machine) -> Stepped
     ensures { λ r. ⌜ r ≡ eodOf machine ⌝ }
@@ -283,8 +286,8 @@ fn behind_eod(machine: Machine) -> Stepped
     let phase = machine.phase;
     match phase {
         Phase::Sof => begin(machine, Phase::Main),
-        Phase::Main => begin(machine, Phase::Normalization),
         Phase::Normalization => begin(machine, Phase::Checked),
+        Phase::Main => begin(machine, Phase::Normalization),
         Phase::Plain => fail(machine, Fault::EodAfterResponse),
         Phase::Checked => fail(machine, Fault::EodAfterResponse),
     }
@@ -299,7 +302,7 @@ fn close_part(machine: Machine, eod: bool) -> Stepped
     if machine.partial != NO_BITS {
         return fail(machine, Fault::SplitByte);
     }
-    if (machine.count as usize) < machine.began as usize + asked.fewest as usize {
+    if too_few(machine.count, machine.began, asked.fewest) {
         return fail(machine, Fault::FewBytes);
     }
     if wrong_check(asked.checked, machine.register) {

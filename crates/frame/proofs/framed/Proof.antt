@@ -6,12 +6,6 @@ use borrow.Author.Needs.{needs}
 use Rattle.frame.proofs.framed.Statement.{statement}
 use Rattle.frame.proofs.framed.Tie as tie
 
-cast-count : tie.Need-cast-count
-cast-count c = search needs
-
-cast-began : tie.Need-cast-began
-cast-began c = search needs
-
 enum-told : tie.Need-enum-told
 enum-told c = search needs
 
@@ -49,26 +43,24 @@ whole-requires-5 : tie.Need-whole-requires-5
 whole-requires-5 c κs = search needs
 
 returns : tie.Need-returns
-returns c = c .whole .ensures ∙ ap (λ (x : Phase). framedIn x (c .before .before .before .before .before .args .machine) (c .before .before .before .before .before .args .opening) (c .before .before .before .before .before .args .closing)) (sym (c .before .enum-told .given .1))
+returns c = c .whole .ensures ∙ ap (λ (x : Phase). framedIn x (c .before .before .before .args .machine) (c .before .before .before .args .opening) (c .before .before .before .args .closing)) (sym (c .before .enum-told .given .1))
 
 returns-2 : tie.Need-returns-2
-returns-2 c = c .whole2 .ensures ∙ ap (λ (x : Phase). framedIn x (c .before .before .before .before .before .args .machine) (c .before .before .before .before .before .args .opening) (c .before .before .before .before .before .args .closing)) (sym (c .before .enum-told2 .given .1))
+returns-2 c = c .whole2 .ensures ∙ ap (λ (x : Phase). framedIn x (c .before .before .before .args .machine) (c .before .before .before .args .opening) (c .before .before .before .args .closing)) (sym (c .before .enum-told2 .given .1))
 
 returns-3 : tie.Need-returns-3
-returns-3 c = c .whole3 .ensures ∙ ap (λ (x : Phase). framedIn x (c .before .before .before .before .before .args .machine) (c .before .before .before .before .before .args .opening) (c .before .before .before .before .before .args .closing)) (sym (c .before .enum-told3 .given .1))
+returns-3 c = c .whole3 .ensures ∙ ap (λ (x : Phase). framedIn x (c .before .before .before .args .machine) (c .before .before .before .args .opening) (c .before .before .before .args .closing)) (sym (c .before .enum-told3 .given .1))
 
 returns-4 : tie.Need-returns-4
-returns-4 c = c .whole4 .ensures ∙ ap (λ (x : Phase). framedIn x (c .before .before .before .before .before .args .machine) (c .before .before .before .before .before .args .opening) (c .before .before .before .before .before .args .closing)) (sym (c .before .enum-told4 .given .1))
+returns-4 c = c .whole4 .ensures ∙ ap (λ (x : Phase). framedIn x (c .before .before .before .args .machine) (c .before .before .before .args .opening) (c .before .before .before .args .closing)) (sym (c .before .enum-told4 .given .1))
 
 returns-5 : tie.Need-returns-5
-returns-5 c = c .whole5 .ensures ∙ ap (λ (x : Phase). framedIn x (c .before .before .before .before .before .args .machine) (c .before .before .before .before .before .args .opening) (c .before .before .before .before .before .args .closing)) (sym (c .before .enum-told5 .given .1))
+returns-5 c = c .whole5 .ensures ∙ ap (λ (x : Phase). framedIn x (c .before .before .before .args .machine) (c .before .before .before .args .opening) (c .before .before .before .args .closing)) (sym (c .before .enum-told5 .given .1))
 
 pub framed-spec : {M : Type 1} → statement M
 framed-spec =
     tie.close
     (tie.spec
-    cast-count
-    cast-began
     enum-told
     whole-requires
     enum-told-2

@@ -1,7 +1,6 @@
--- `frame::read_from` meets its contract: no opening, an opening with nothing behind it, or the frame that opens there.
-use native.Mathlib.Omega.{arith}
+-- `frame::read_from` meets its contract: no opening, or the one that was found.
 use Rattle.frame.proofs.Searching.{opened-at, opened-none, opened-in}
-use Rattle.frame.proofs.Answers.{quiet-meets, alone-meets, opened-meets}
+use Rattle.frame.proofs.Answers.{quiet-meets, opened-meets}
 use borrow.Author.Needs.{needs}
 use Rattle.frame.proofs.read_from.Statement.{statement}
 use Rattle.frame.proofs.read_from.Tie as tie
@@ -15,23 +14,17 @@ enum-told c = search needs
 enum-known-found : tie.Need-enum-known-found
 enum-known-found c = search needs
 
-add-if1 : tie.Need-add-if1
-add-if1 c = omega (arith, opened-in _ _ _ (c .before .before .before .before .before .before .pre .0) (opened-at _ _ _ _ (c .before .before .before .opening .ensures) (c .before .found .given .1)))
+read-found-requires : tie.Need-read-found-requires
+read-found-requires c κs = (opened-in _ _ _ (c .before .before .before .before .before .before .before .pre .0) (opened-at _ _ _ _ (c .before .before .before .before .opening .ensures) (c .before .before .found .given .1)), search needs)
 
 returns : tie.Need-returns
-returns c = alone-meets _ _ _ _ (opened-at _ _ _ _ (c .before .before .before .before .opening .ensures) (c .before .before .found .given .1)) (c .if1 .taken)
-
-read-open-requires : tie.Need-read-open-requires
-read-open-requires c κs = search needs
-
-returns-2 : tie.Need-returns-2
-returns-2 c = quiet-meets _ _ _ (opened-none _ _ _ (c .before .before .opening .ensures) (c .enum-told .given .1))
+returns c = quiet-meets _ _ _ (opened-none _ _ _ (c .before .before .opening .ensures) (c .enum-told .given .1))
 
 same-length : tie.Need-same-length
 same-length c = search needs
 
-returns-3 : tie.Need-returns-3
-returns-3 c = opened-meets _ _ _ _ _ _ (opened-at _ _ _ _ (c .before .before .before .before .before .before .before .before .opening .ensures) (c .before .before .before .before .before .before .found .given .1)) (c .before .before .before .before .if1 .left) (c .before .before .read-open .ensures)
+returns-2 : tie.Need-returns-2
+returns-2 c = opened-meets _ _ _ _ _ _ (opened-at _ _ _ _ (c .before .before .before .before .before .before .before .opening .ensures) (c .before .before .before .before .before .found .given .1)) (c .before .before .read-found .ensures)
 
 pub read-from-spec : {M : Type 1} → statement M
 read-from-spec =
@@ -40,9 +33,7 @@ read-from-spec =
     opening-requires
     enum-told
     enum-known-found
-    add-if1
+    read-found-requires
     returns
-    read-open-requires
-    returns-2
     same-length
-    returns-3)
+    returns-2)

@@ -1,10 +1,9 @@
 -- `frame::read_open` meets its contract. Before each interval the machine holds what stands before it, the bytes so far are
 -- kept, the lent bytes are as they were, and no interval before it decides. The measure is what is left of the recording.
-use denote.Ref.{now}
 use Prim.Native.Nat.{_+_, _-_, _≤_}
-use mathlib.Core.Path.{_≡_, refl, sym, ap, _∙_}
-use native.Mathlib.Omega.{arith}
+use mathlib.Core.Path.{_≡_, refl, ap, _∙_}
 use mathlib.Core.Logic.{⊎-elim}
+use native.Mathlib.Omega.{arith}
 use lib.ListN.{length}
 use Rattle.framing.specs.Line.{firstIn, symbolAt}
 use Rattle.framing.specs.Reading.{decides}
@@ -39,9 +38,6 @@ shared-slice-read-t19 c = search needs
 class-requires : tie.Need-class-requires Inv-loop μ-loop
 class-requires c κs = search needs
 
-cast-at : tie.Need-cast-at Inv-loop μ-loop
-cast-at c = search needs
-
 step-requires : tie.Need-step-requires Inv-loop μ-loop
 step-requires c κs = search needs
 
@@ -53,28 +49,25 @@ enum-known-event c = search needs
 
 array-write-kept : tie.Need-array-write-kept Inv-loop μ-loop
 unfolding symbolAt
-array-write-kept c = let v = says-by _ _ _ _ _ (c .before .before .before .before .before .before .before .before .before .loop .inv .2) _ _ _ (c .before .before .before .before .before .before .class .ensures) (c .before .before .before .before .step .ensures) (c .before .event .given .1) in v .1 .0
+array-write-kept c = let v = says-by _ _ _ _ _ (c .before .before .before .before .before .before .before .before .loop .inv .2) _ _ _ (c .before .before .before .before .before .class .ensures) (c .before .before .before .before .step .ensures) (c .before .event .given .1) in v .1 .0
 
 enum-told-2 : tie.Need-enum-told-2 Inv-loop μ-loop
 enum-told-2 c = search needs
 
-cast-count : tie.Need-cast-count Inv-loop μ-loop
-cast-count c = search needs
-
 lay-requires : tie.Need-lay-requires Inv-loop μ-loop
 unfolding symbolAt
-lay-requires c κs = let v = says-by _ _ _ _ _ (c .before .before .before .before .before .before .before .before .before .before .loop .inv .2) _ _ _ (c .before .before .before .before .before .before .before .class .ensures) (c .before .before .before .before .before .step .ensures) (c .before .before .enum-told2 .given .1) in (held-few _ _ _ _ _ (v .1 .1), rw (c .before .before .before .before .before .before .before .before .before .before .loop .inv .1) (c .before .before .before .before .before .before .before .before .before .before .before .before .before .before .pre .1))
+lay-requires c κs = let v = says-by _ _ _ _ _ (c .before .before .before .before .before .before .before .before .loop .inv .2) _ _ _ (c .before .before .before .before .before .class .ensures) (c .before .before .before .before .step .ensures) (c .before .enum-told2 .given .1) in (held-few _ _ _ _ _ (v .1 .1), rw (c .before .before .before .before .before .before .before .before .loop .inv .1) (c .before .before .before .before .before .before .before .before .before .before .before .before .pre .1))
 
 framed-requires : tie.Need-framed-requires Inv-loop μ-loop
 unfolding symbolAt
-framed-requires c κs = let v = says-by _ _ _ _ _ (c .before .before .before .before .before .before .before .before .before .before .before .before .before .loop .inv .2) _ _ _ (c .before .before .before .before .before .before .before .before .before .before .class .ensures) (c .before .before .before .before .before .before .before .before .step .ensures) (c .before .before .before .before .before .enum-told2 .given .1) in held-began _ _ _ _ _ (v .1 .1)
+framed-requires c κs = let v = says-by _ _ _ _ _ (c .before .before .before .before .before .before .before .before .before .before .before .loop .inv .2) _ _ _ (c .before .before .before .before .before .before .before .before .class .ensures) (c .before .before .before .before .before .before .before .step .ensures) (c .before .before .before .before .enum-told2 .given .1) in held-began _ _ _ _ _ (v .1 .1)
 
 same-length : tie.Need-same-length Inv-loop μ-loop
-same-length c = omega (arith, ap length (c .before .before .before .before .before .before .before .before .before .before .before .before .before .before .loop .inv .1))
+same-length c = omega (arith, ap length (c .before .before .before .before .before .before .before .before .before .before .before .before .loop .inv .1))
 
 returns : tie.Need-returns Inv-loop μ-loop
 unfolding symbolAt
-returns c = let v = says-by _ _ _ _ _ (c .before .before .before .before .before .before .before .before .before .before .before .before .before .before .loop .inv .2) _ _ _ (c .before .before .before .before .before .before .before .before .before .before .before .class .ensures) (c .before .before .before .before .before .before .before .before .before .step .ensures) (c .before .before .before .before .before .before .enum-told2 .given .1) in closed-meets _ _ _ _ (c .before .before .before .before .before .before .before .before .before .before .before .before .before .before .loop .inv .1) _ _ _ _ _ (c .before .before .before .before .before .before .before .before .before .before .before .before .before .before .loop .inv .3 ∙ decides-here _ _ _ _ (c .before .before .before .before .before .before .before .before .before .before .before .before .before .loop-test .taken) (v .0)) (v .1 .0) (v .1 .1) (c .before .before .before .lay .ensures) (c .framed .ensures)
+returns c = let v = says-by _ _ _ _ _ (c .before .before .before .before .before .before .before .before .before .before .before .before .loop .inv .2) _ _ _ (c .before .before .before .before .before .before .before .before .before .class .ensures) (c .before .before .before .before .before .before .before .before .step .ensures) (c .before .before .before .before .before .enum-told2 .given .1) in closed-meets _ _ _ _ (c .before .before .before .before .before .before .before .before .before .before .before .before .loop .inv .1) _ _ _ _ _ (c .before .before .before .before .before .before .before .before .before .before .before .before .loop .inv .3 ∙ decides-here _ _ _ _ (c .before .before .before .before .before .before .before .before .before .before .before .loop-test .taken) (v .0)) (v .1 .0) (v .1 .1) (c .before .before .before .lay .ensures) (c .framed .ensures)
 
 enum-known-event-2 : tie.Need-enum-known-event-2 Inv-loop μ-loop
 enum-known-event-2 c = search needs
@@ -84,7 +77,7 @@ same-length-2 c = search needs
 
 returns-2 : tie.Need-returns-2 Inv-loop μ-loop
 unfolding symbolAt
-returns-2 c = let v = says-by _ _ _ _ _ (c .before .before .before .before .before .before .before .before .before .loop .inv .2) _ _ _ (c .before .before .before .before .before .before .class .ensures) (c .before .before .before .before .step .ensures) (c .before .event2 .given .1) in faulty-meets _ _ _ _ (c .before .before .before .before .before .before .before .before .before .loop .inv .1) _ _ (c .before .before .before .before .before .before .before .before .before .loop .inv .3 ∙ decides-here _ _ _ _ (c .before .before .before .before .before .before .before .before .loop-test .taken) (v .0)) (v .1)
+returns-2 c = let v = says-by _ _ _ _ _ (c .before .before .before .before .before .before .before .before .loop .inv .2) _ _ _ (c .before .before .before .before .before .class .ensures) (c .before .before .before .before .step .ensures) (c .before .event2 .given .1) in faulty-meets _ _ _ _ (c .before .before .before .before .before .before .before .before .loop .inv .1) _ _ (c .before .before .before .before .before .before .before .before .loop .inv .3 ∙ decides-here _ _ _ _ (c .before .before .before .before .before .before .before .loop-test .taken) (v .0)) (v .1)
 
 add-i-2 : tie.Need-add-i-2 Inv-loop μ-loop
 add-i-2 c = search needs
@@ -94,7 +87,7 @@ loop-less c = search needs
 
 loop-again : tie.Need-loop-again Inv-loop μ-loop
 unfolding symbolAt
-loop-again c = ⊎-elim (λ w. let v = says-by _ _ _ _ _ (c .before .before .before .before .before .before .before .loop .inv .2) _ _ _ (c .before .before .before .before .class .ensures) (c .before .before .step .ensures) (w .1 .given .1) in (search needs, c .before .before .before .before .before .before .before .loop .inv .1, rw (w .2) (v .1), c .before .before .before .before .before .before .before .loop .inv .3 ∙ decides-here _ _ _ _ (c .before .before .before .before .before .before .loop-test .taken) (v .0))) (λ w. let v = says-by _ _ _ _ _ (c .before .before .before .before .before .before .before .loop .inv .2) _ _ _ (c .before .before .before .before .class .ensures) (c .before .before .step .ensures) (w .1 .given .1) in (search needs, c .before .before .before .before .before .before .before .loop .inv .1, rw (w .3) (v .1 .1), c .before .before .before .before .before .before .before .loop .inv .3 ∙ decides-here _ _ _ _ (c .before .before .before .before .before .before .loop-test .taken) (v .0))) (c .match .came)
+loop-again c = ⊎-elim (λ w. let v = says-by _ _ _ _ _ (c .before .before .before .before .before .before .loop .inv .2) _ _ _ (c .before .before .before .class .ensures) (c .before .before .step .ensures) (w .1 .given .1) in (search needs, c .before .before .before .before .before .before .loop .inv .1, rw (w .2) (v .1), c .before .before .before .before .before .before .loop .inv .3 ∙ decides-here _ _ _ _ (c .before .before .before .before .before .loop-test .taken) (v .0))) (λ w. let v = says-by _ _ _ _ _ (c .before .before .before .before .before .before .loop .inv .2) _ _ _ (c .before .before .before .class .ensures) (c .before .before .step .ensures) (w .1 .given .1) in (search needs, c .before .before .before .before .before .before .loop .inv .1, rw (w .3) (v .1 .1), c .before .before .before .before .before .before .loop .inv .3 ∙ decides-here _ _ _ _ (c .before .before .before .before .before .loop-test .taken) (v .0))) (c .match .came)
 
 same-length-3 : tie.Need-same-length-3 Inv-loop μ-loop
 same-length-3 c = search needs
@@ -114,13 +107,11 @@ read-open-spec =
     mul-t17
     shared-slice-read-t19
     class-requires
-    cast-at
     step-requires
     enum-told
     enum-known-event
     array-write-kept
     enum-told-2
-    cast-count
     lay-requires
     framed-requires
     same-length

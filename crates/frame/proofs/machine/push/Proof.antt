@@ -5,9 +5,6 @@ use borrow.Author.Needs.{needs}
 use Rattle.frame.proofs.machine.push.Statement.{statement}
 use Rattle.frame.proofs.machine.push.Tie as tie
 
-cast-if1 : tie.Need-cast-if1
-cast-if1 c = search needs
-
 fail-requires : tie.Need-fail-requires
 fail-requires c κs = search needs
 
@@ -35,11 +32,11 @@ returns-2 c = push-open _ _ _ _ (c .before .before .before .before .if1 .left) (
 low-requires-2 : tie.Need-low-requires-2
 low-requires-2 c κs = search needs
 
-add-t17 : tie.Need-add-t17
-add-t17 c = search needs
-
 step-requires : tie.Need-step-requires
 step-requires c κs = search needs
+
+add-t11 : tie.Need-add-t11
+add-t11 c = search needs
 
 returns-3 : tie.Need-returns-3
 returns-3 c = push-whole _ _ _ _ _ (c .before .before .before .before .before .if1 .left) (c .before .before .before .number .ensures .0) (c .before .before .if2 .left) (c .before .low2 .ensures) (c .step .ensures)
@@ -48,7 +45,6 @@ pub push-spec : {M : Type 1} → statement M
 push-spec =
     tie.close
     (tie.spec
-    cast-if1
     fail-requires
     returns
     cast-bits
@@ -58,6 +54,6 @@ push-spec =
     low-requires
     returns-2
     low-requires-2
-    add-t17
     step-requires
+    add-t11
     returns-3)
