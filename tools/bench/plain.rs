@@ -95,15 +95,17 @@ impl Writer<'_> {
     }
 
     fn byte(&mut self, byte: u8) {
-        for bit in 0..8 {
+        let eight = &mut self.words[self.at..self.at + 8];
+        for (bit, word) in eight.iter_mut().enumerate() {
             let one = byte & (0x80 >> bit) != 0;
             let active = bit % 2 == 1;
-            self.put(if one == active {
+            *word = if one == active {
                 self.clock.short
             } else {
                 self.clock.long
-            });
+            };
         }
+        self.at += 8;
     }
 
     fn bytes(&mut self, bytes: &[u8]) {
