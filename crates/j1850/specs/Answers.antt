@@ -16,6 +16,9 @@ use Rattle.framing.specs.Writing as writing
 use Rattle.framing.specs.Answers.{Told}
 use Rattle.j1850.specs.declared.answers.Gate.{Gate}
 use Rattle.j1850.specs.declared.answers.Clock.{Clock}
+use Rattle.j1850.specs.declared.answers.Check.{Check}
+use Rattle.j1850.specs.declared.answers.Class.{Class}
+use Rattle.j1850.specs.declared.answers.Timed.{Timed}
 use Rattle.j1850.specs.declared.answers.Counted.{Counted}
 use Rattle.j1850.specs.declared.answers.Read.{Read}
 
@@ -37,6 +40,16 @@ symbolNumber Eof = 5
 symbolNumber Ifs = 6
 symbolNumber Break = 7
 symbolNumber Stuck = 8
+
+-- calls that cannot refuse: the number 0, and the check byte, the symbol's number, or whether the clock is good
+abbrev pub checkAs : ℕ → Check
+checkAs b = record { number = 0; check = b }
+
+abbrev pub classAs : Symbol → Class
+classAs s = record { number = 0; symbol = symbolNumber s }
+
+abbrev pub timedAs : Bool → Timed
+timedAs g = record { number = 0; good = g }
 
 -- the number of each kind of response, and the kind that a number asks for
 abbrev pub kindNumber : Response → ℕ

@@ -12,7 +12,7 @@ ghost use Rattle.volts.specs.Intervals.{intervalsOf};
 ghost use Rattle.framing.specs.Reading.{reading};
 ghost use Rattle.framing.specs.Answers.{tells, lentAfter};
 ghost use Rattle.framing.specs.Writing.{counts, wordsAfter};
-ghost use Rattle.j1850.specs.Answers.{gateOf, clockOf, symbolNumber, tracedAs, sheetOf, countedAs, readAs};
+ghost use Rattle.j1850.specs.Answers.{gateOf, clockOf, checkAs, classAs, timedAs, tracedAs, sheetOf, countedAs, readAs};
 use answers::CHECKED;
 use answers::Check;
 use answers::Class;
@@ -28,7 +28,7 @@ use units::Place;
 // The check byte that is sent behind some bytes.
 #[no_mangle]
 pub extern "C" fn j1850_check_byte(bytes: &[u8]) -> Check
-    ensures { λ r. ⌜ (r .number ≡ 0) × (r .check ≡ checkOf (now (bytes .entry))) ⌝ }
+    ensures { λ r. ⌜ r ≡ checkAs (checkOf (now (bytes .entry))) ⌝ }
 {
     let check = checkbyte::check_byte(bytes);
     Check {
@@ -40,7 +40,7 @@ pub extern "C" fn j1850_check_byte(bytes: &[u8]) -> Check
 // The symbol of an interval: every width, at either level, has one.
 #[no_mangle]
 pub extern "C" fn j1850_class(active: bool, width: u32) -> Class
-    ensures { λ r. ⌜ (r .number ≡ 0) × (r .symbol ≡ symbolNumber (classOf active width)) ⌝ }
+    ensures { λ r. ⌜ r ≡ classAs (classOf active width) ⌝ }
 {
     let symbol = answers::symbol_number(symbol::class(active, Micros(width)));
     Class {
@@ -52,7 +52,7 @@ pub extern "C" fn j1850_class(active: bool, width: u32) -> Class
 // Whether all three widths of a clock lie in the sending windows.
 #[no_mangle]
 pub extern "C" fn j1850_good_clock(clock: Clock) -> Timed
-    ensures { λ r. ⌜ (r .number ≡ 0) × (r .good ≡ goodOf (clockOf clock)) ⌝ }
+    ensures { λ r. ⌜ r ≡ timedAs (goodOf (clockOf clock)) ⌝ }
 {
     let good = symbol::good_clock(answers::clock_of(clock));
     Timed { number: DONE, good }
