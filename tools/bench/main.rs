@@ -1,4 +1,4 @@
-//! Measures the proved library beside the same jobs written straight down in Rust (plain.rs), in one process.
+//! Measures the proved library beside the same jobs written straight down in Rust (plain.rs, plain_reading.rs), in one process.
 //!
 //!     bench                     times: the two in turn, many rounds, medians and their ratio
 //!     bench JOB WHO TIMES       does a job so often and nothing else, for counting instructions; WHO is proved or plain
@@ -13,6 +13,7 @@ mod lines;
 #[path = "../compare/ours.rs"]
 mod ours;
 mod plain;
+mod plain_reading;
 #[allow(dead_code)]
 #[path = "../compare/random.rs"]
 mod random;
@@ -186,7 +187,11 @@ fn jobs() -> Vec<Job> {
             LONGEST,
             parts,
             |proved, parts| {
-                let read = if proved { ours::read } else { plain::read };
+                let read = if proved {
+                    ours::read
+                } else {
+                    plain_reading::read
+                };
                 parts.iter().map(|part| read_pass(read, part)).sum()
             },
         ));
