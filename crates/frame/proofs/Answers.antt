@@ -17,9 +17,9 @@ use Rattle.framing.specs.Standing.{plain, checked, Standing, atSof, inMain, atN
 use Rattle.framing.specs.Faults.{mostBytes, facts, mainBytes, responseBytes}
 use Rattle.framing.specs.Reading.{faultAt, decides, decided, readBy, reading}
 use Rattle.framing.specs.Answers.{faultNumber, ReadPromise}
-use Rattle.frame.specs.declared.machine.Machine.{Machine}
-use Rattle.frame.specs.Holding.{soFar, holding, Kept}
-use Rattle.frame.specs.HoldingLaws.{count-of}
+use Rattle.machine.specs.declared.Machine.{Machine}
+use Rattle.machine.specs.Holding.{soFar, holding, Kept}
+use Rattle.machine.specs.HoldingLaws.{count-of}
 use Rattle.frame.specs.Following.{Before, some-fault}
 use Rattle.frame.specs.Answering.{placed, frameOf, framedOf, laid, Meets}
 

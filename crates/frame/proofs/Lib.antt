@@ -1,4 +1,3 @@
-mod Exits
 mod Searching
 mod Answers
 mod Words

@@ -13,9 +13,9 @@ use Rattle.framing.specs.Reading.{Outcome}
 use Rattle.framing.specs.Answers.{told, tells, lentAfter}
 use Rattle.frame.specs.declared.Found.{Found}
 use Rattle.frame.specs.declared.Found.the-variants.{At, Nowhere}
-use Rattle.frame.specs.declared.machine.Phase.{Phase}
-use Rattle.frame.specs.declared.machine.Phase.the-variants.{Sof, Main, Normalization, Plain, Checked}
-use Rattle.frame.specs.declared.machine.Machine.{Machine}
+use Rattle.machine.specs.declared.Phase.{Phase}
+use Rattle.machine.specs.declared.Phase.the-variants.{Sof, Main, Normalization, Plain, Checked}
+use Rattle.machine.specs.declared.Machine.{Machine}
 
 -- what a search answers for a first place
 abbrev pub foundBy : FoundPlace → Found

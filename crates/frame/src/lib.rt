@@ -1,7 +1,6 @@
 // Frames on the line. What reading and writing answer is defined, in document 01's words, in the room below. Reading
 // drives the frame machine over the recording, and the bytes that it tells of are kept until the frame is whole; writing
 // has a file of its own.
-pub mod machine;
 mod writing;
 
 pub use writing::write;

@@ -1,6 +1,6 @@
 -- `frame::framed` meets its contract, phase by phase.
 use mathlib.Core.Path.{ap, sym, _∙_}
-use Rattle.frame.specs.declared.machine.Phase.{Phase}
+use Rattle.machine.specs.declared.Phase.{Phase}
 use Rattle.frame.specs.Answering.{framedIn}
 use borrow.Author.Needs.{needs}
 use Rattle.frame.proofs.framed.Statement.{statement}
