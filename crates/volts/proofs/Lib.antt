@@ -2,3 +2,4 @@ pub mod Finiteness
 pub mod Scanning
 pub mod Turns
 pub mod Rules
+pub mod Usable

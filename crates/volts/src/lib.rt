@@ -3,9 +3,10 @@
 
 ghost use mathlib.Core.Path.{_≡_};
 ghost use Prim.Native.Nat.{_+_, _≤_, _<_};
+ghost use mathlib.Core.Bool.{false};
 ghost use mathlib.Core.List.{_++_};
 ghost use lib.ListN.{length, drop};
-ghost use Rattle.volts.specs.Judging.{isFinite, goodGate, judged};
+ghost use Rattle.volts.specs.Judging.{isFinite, goodGate, against, judged};
 ghost use Rattle.volts.specs.Levels.{levelAfter, isUnusable};
 ghost use Rattle.volts.specs.Intervals.{intervalsOf};
 ghost use Rattle.volts.specs.Tracing.{mostSamples, sampleUnusable, Promise};
@@ -79,6 +80,13 @@ pub fn judge(gate: Gate, sample: f32) -> Judged
     if !finite(volts) {
         return Judged::Unusable;
     }
+    against_levels(gate, volts)
+}
+
+// What a gate says of volts that are a finite number, the offset taken away already.
+fn against_levels(gate: Gate, volts: f32) -> Judged
+    ensures { λ r. ⌜ r ≡ against gate volts ⌝ }
+{
     if volts >= gate.active {
         return Judged::Active(volts);
     }
@@ -128,8 +136,9 @@ fn some_unusable(gate: Gate, samples: &[f32]) -> bool
 }
 
 // Writes the intervals of a trace to the front of the lent words and answers how many there are. The line starts passive,
-// so a trace that begins active has a first interval of 0.
+// so a trace that begins active has a first interval of 0. Every sample is known to be usable, and none is tested again.
 fn write_intervals(gate: Gate, samples: &[f32], words: &mut [u32]) -> usize
+    requires { ⌜ sampleUnusable gate (now samples) ≡ false ⌝ }
     requires { ⌜ (0 < length (now samples)) × (length (now samples) ≤ mostSamples) × (length (now samples) < length (now words)) ⌝ }
     ensures { λ r. ⌜ (r ≡ length (intervalsOf gate (now (samples .entry)))) × (now (words .exit) ≡ intervalsOf gate (now (samples .entry)) ++ drop r (now (words .entry))) ⌝ }
 {
@@ -138,7 +147,7 @@ fn write_intervals(gate: Gate, samples: &[f32], words: &mut [u32]) -> usize
     let mut active = false;
     let mut i = 0usize;
     while i < samples.len() {
-        let level = level_after(active, judge(gate, samples[i]));
+        let level = level_after(active, against_levels(gate, samples[i] - gate.offset));
         let lasted = width.0;
         if level == active {
             let longer = lasted + 1;

@@ -53,7 +53,9 @@ returns-5 c =
     ) (rw empty)
 
 write-intervals-requires : tie.Need-write-intervals-requires
-write-intervals-requires c κs = search needs
+write-intervals-requires c κs =
+    let scan = c .before .before .before in
+    (sym (scan .some-unusable .ensures) ∙ c .before .before .if4 .left, search needs)
 
 same-length : tie.Need-same-length
 same-length c = search needs

@@ -6,6 +6,7 @@ use native.Mathlib.Omega.{arith}
 use borrow.Author.Needs.{needs}
 use lib.ListN.{length}
 use Rattle.volts.specs.Levels.{levelAfter}
+use Rattle.volts.proofs.Usable.{usable-at}
 use Rattle.volts.proofs.Turns.{Turn, turn-first, turn-same, turn-other, turn-count, turn-words}
 use Rattle.volts.proofs.write_intervals.Statement.{statement}
 use Rattle.volts.proofs.write_intervals.Tie as tie
@@ -19,14 +20,14 @@ abbrev μ-loop : tie.MeasureT-loop
 loop-holds : tie.Need-loop-holds Inv-loop μ-loop
 loop-holds c = turn-first _ _ _
 
-mul-judge : tie.Need-mul-judge Inv-loop μ-loop
-mul-judge c = search needs
+mul-against-levels : tie.Need-mul-against-levels Inv-loop μ-loop
+mul-against-levels c = search needs
 
-shared-slice-read-judge : tie.Need-shared-slice-read-judge Inv-loop μ-loop
-shared-slice-read-judge c = search needs
+shared-slice-read-against-levels : tie.Need-shared-slice-read-against-levels Inv-loop μ-loop
+shared-slice-read-against-levels c = search needs
 
-judge-requires : tie.Need-judge-requires Inv-loop μ-loop
-judge-requires c κs = search needs
+against-levels-requires : tie.Need-against-levels-requires Inv-loop μ-loop
+against-levels-requires c κs = search needs
 
 level-after-requires : tie.Need-level-after-requires Inv-loop μ-loop
 level-after-requires c κs = search needs
@@ -52,9 +53,11 @@ loop-less c = search needs
 loop-again : tie.Need-loop-again Inv-loop μ-loop
 loop-again c =
     let judged = c .before in
-    let test = judged .before .before .before in
+    let test = judged .before .before .before .before in
     let turn = test .before .loop .inv in
-    let level = judged .level-after .ensures ∙ ap (levelAfter (test .before .loop .active)) (judged .before .judge .ensures) in
+    let none = test .before .before .before .before .pre .0 in
+    let usable = usable-at _ _ _ none (test .loop-test .taken) in
+    let level = judged .level-after .ensures ∙ ap (levelAfter (test .before .loop .active)) (judged .before .against-levels .ensures ∙ usable) in
     ⊎-elim
     (λ w. rw (w .1, w .2, w .3) (turn-same _ _ _ _ _ _ _ _ turn _ (test .loop-test .taken) level (w .0 .taken)))
     (λ w. rw (w .1, w .2, w .3) (turn-other _ _ _ _ _ _ _ _ turn _ (test .loop-test .taken) level (omega arith) (w .0 .left)))
@@ -76,8 +79,8 @@ returns : tie.Need-returns Inv-loop μ-loop
 returns c =
     let turn = c .before .loop .inv in
     let pre = c .before .before .before .before .pre in (
-      turn-count _ _ _ _ _ _ _ _ turn (c .loop-test .left) (pre .0) (pre .2),
-      turn-words _ _ _ _ _ _ _ _ turn (c .loop-test .left) (pre .0) (pre .2),
+      turn-count _ _ _ _ _ _ _ _ turn (c .loop-test .left) (pre .1 .0) (pre .1 .2),
+      turn-words _ _ _ _ _ _ _ _ turn (c .loop-test .left) (pre .1 .0) (pre .1 .2),
     )
 
 pub write-intervals-spec : {M : Type 1} → statement M
@@ -87,9 +90,9 @@ write-intervals-spec =
     Inv-loop
     μ-loop
     loop-holds
-    mul-judge
-    shared-slice-read-judge
-    judge-requires
+    mul-against-levels
+    shared-slice-read-against-levels
+    against-levels-requires
     level-after-requires
     add-longer
     mul-words

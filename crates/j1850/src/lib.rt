@@ -1,0 +1,102 @@
+// The open calls for C, Rust and Python; include/j1850.h says what each takes and answers. Each call hands its arguments
+// to the room that does the work and gives that room's answer as numbers, document 01's number first.
+mod answers;
+
+ghost use mathlib.Core.Path.{_≡_};
+ghost use lib.ListN.{length};
+ghost use Rattle.checkbyte.specs.Register.{checkOf};
+ghost use Rattle.symbol.specs.Classes.{classOf};
+ghost use Rattle.symbol.specs.Clocks.{goodOf};
+ghost use Rattle.volts.specs.Tracing.{outcome, wordsAfter as tracedWords};
+ghost use Rattle.volts.specs.Intervals.{intervalsOf};
+ghost use Rattle.framing.specs.Reading.{reading};
+ghost use Rattle.framing.specs.Answers.{tells, lentAfter};
+ghost use Rattle.framing.specs.Writing.{counts, wordsAfter};
+ghost use Rattle.j1850.specs.Answers.{gateOf, clockOf, checkAs, classAs, timedAs, tracedAs, sheetOf, countedAs, readAs};
+use answers::CHECKED;
+use answers::Check;
+use answers::Class;
+use answers::Clock;
+use answers::Counted;
+use answers::DONE;
+use answers::Gate;
+use answers::Read;
+use answers::Timed;
+use units::Micros;
+use units::Place;
+
+// The check byte that is sent behind some bytes.
+#[no_mangle]
+pub extern "C" fn j1850_check_byte(bytes: &[u8]) -> Check
+    ensures { λ r. ⌜ r ≡ checkAs (checkOf (now (bytes .entry))) ⌝ }
+{
+    let check = checkbyte::check_byte(bytes);
+    Check {
+        number: DONE,
+        check,
+    }
+}
+
+// The symbol of an interval: every width, at either level, has one.
+#[no_mangle]
+pub extern "C" fn j1850_class(active: bool, width: u32) -> Class
+    ensures { λ r. ⌜ r ≡ classAs (classOf active width) ⌝ }
+{
+    let symbol = answers::symbol_number(symbol::class(active, Micros(width)));
+    Class {
+        number: DONE,
+        symbol,
+    }
+}
+
+// Whether all three widths of a clock lie in the sending windows.
+#[no_mangle]
+pub extern "C" fn j1850_good_clock(clock: Clock) -> Timed
+    ensures { λ r. ⌜ r ≡ timedAs (goodOf (clockOf clock)) ⌝ }
+{
+    let good = symbol::good_clock(answers::clock_of(clock));
+    Timed { number: DONE, good }
+}
+
+// The intervals of a trace of samples, into lent words, one more than the samples.
+#[no_mangle]
+pub extern "C" fn j1850_intervals(gate: Gate, samples: &[f32], words: &mut [u32]) -> Counted
+    ensures { λ r. ⌜ r ≡ tracedAs (outcome (gateOf gate) (now (samples .entry)) (now (words .entry))) ⌝ }
+    ensures { λ _. ⌜ now (words .exit) ≡ tracedWords (outcome (gateOf gate) (now (samples .entry)) (now (words .entry))) (intervalsOf (gateOf gate) (now (samples .entry))) (now (words .entry)) ⌝ }
+{
+    let inner = volts::Gate {
+        offset: gate.offset,
+        active: gate.active,
+        passive: gate.passive,
+    };
+    answers::traced(volts::intervals(inner, samples, words))
+}
+
+// Writes the frame of a message, at a clock, into lent words. A kind that is none of the three is turned away as a bad
+// message is, behind a bad clock.
+#[no_mangle]
+pub extern "C" fn j1850_write(
+    clock: Clock,
+    main: &[u8],
+    kind: u32,
+    response: &[u8],
+    words: &mut [u32],
+) -> Counted
+    ensures { λ r. ⌜ r ≡ countedAs (counts (sheetOf clock (now (main .entry)) kind (now (response .entry)) (length (now (words .entry))))) ⌝ }
+    ensures { λ _. ⌜ now (words .exit) ≡ wordsAfter (sheetOf clock (now (main .entry)) kind (now (response .entry)) (length (now (words .entry)))) (now (words .entry)) ⌝ }
+{
+    let inner = answers::clock_of(clock);
+    if kind > CHECKED {
+        return answers::no_such_kind(inner);
+    }
+    answers::written(frame::write(inner, main, answers::kind_of(kind), response, words))
+}
+
+// Reads the first frame from a position of a recording on; its bytes go into lent bytes, at least 12.
+#[no_mangle]
+pub extern "C" fn j1850_read(intervals: &[u32], from: usize, bytes: &mut [u8]) -> Read
+    ensures { λ r. ⌜ r ≡ readAs (tells (reading (now (intervals .entry)) from (length (now (bytes .entry))))) ⌝ }
+    ensures { λ _. ⌜ now (bytes .exit) ≡ lentAfter (reading (now (intervals .entry)) from (length (now (bytes .entry)))) (now (bytes .entry)) ⌝ }
+{
+    answers::read_as(frame::read(intervals, Place(from), bytes))
+}

@@ -1,0 +1,118 @@
+/*
+ * Sintugapon for C: volts to intervals, and reading and writing the frames of SAE J1850 VPW.
+ *
+ * Every answer's first field, number, is document 01's number: 0 where the call was done, the number of what reading
+ * found, or the number of a refusal (31 to 37). A refusal changes no lent memory, and its other fields are 0.
+ *
+ * A slice is a pointer and then a length in elements; where the length is 0 the pointer may be NULL. Lent memory must not
+ * overlap the other arguments. Beyond memory that is there, no call asks anything of its caller: any value has an answer.
+ * No call allocates, keeps state between calls or changes anything but the memory lent to it.
+ *
+ * Link libj1850.a, which `rt staticlib j1850` writes to target/staticlib/.
+ */
+#ifndef J1850_H
+#define J1850_H
+
+#include <stdbool.h>
+#include <stddef.h>
+#include <stdint.h>
+
+#ifdef __cplusplus
+extern "C" {
+#endif
+
+/* A channel's gate in volts: ground offset, active level, passive level. The usual one is 0, 6.25, 1.5. */
+typedef struct {
+    float offset;
+    float active;
+    float passive;
+} j1850_gate;
+
+/* The widths that a controller sends with, in microseconds: short bit 49..79, long bit 112..145, SOF and EOD 182..218.
+   The nominal clock is 64, 128, 200. */
+typedef struct {
+    uint32_t short_bit;
+    uint32_t long_bit;
+    uint32_t sof;
+} j1850_clock;
+
+/* The symbols, as j1850_class numbers them. */
+enum {
+    J1850_NOISE = 0,
+    J1850_BIT_0 = 1,
+    J1850_BIT_1 = 2,
+    J1850_EOD = 3,
+    J1850_SOF = 4,
+    J1850_EOF = 5,
+    J1850_IFS = 6,
+    J1850_BREAK = 7,
+    J1850_STUCK = 8
+};
+
+/* The kinds of response: none, bytes alone (plain), or bytes and a check byte of their own (checked). */
+enum { J1850_WITHOUT = 0, J1850_PLAIN = 1, J1850_CHECKED = 2 };
+
+typedef struct {
+    uint32_t number; /* always 0 */
+    uint8_t check;   /* the check byte */
+} j1850_check_answer;
+
+typedef struct {
+    uint32_t number; /* always 0 */
+    uint32_t symbol; /* J1850_NOISE to J1850_STUCK */
+} j1850_class_answer;
+
+typedef struct {
+    uint32_t number; /* always 0 */
+    bool good;       /* whether all three widths lie in the sending windows */
+} j1850_clock_answer;
+
+typedef struct {
+    uint32_t number; /* 0, or the number of the refusal */
+    size_t count;    /* how many of the lent words were written, from the first on; the words past them stay */
+} j1850_count_answer;
+
+typedef struct {
+    uint32_t number; /* 0 good frame; 1 quiet; 2 unfinished; 11 to 20 the fault; 31, 32 refused */
+    uint32_t kind;   /* 0: J1850_WITHOUT, J1850_PLAIN or J1850_CHECKED; otherwise 0 */
+    size_t next;     /* where reading goes on: 0 the closing end; 1 the position asked for; 2 the opening; 11 to 20 the
+                        interval at fault */
+    size_t opening;  /* 0 and 2: where the frame opens */
+    size_t main;     /* 0: how many main bytes stand first in the lent bytes, their check byte included */
+    size_t response; /* 0: how many response bytes stand behind them, a checked response's check byte included */
+} j1850_read_answer;
+
+/* The check byte that is sent behind these bytes. */
+j1850_check_answer j1850_check_byte(const uint8_t *bytes, size_t length);
+
+/* The symbol of an interval of this width, in microseconds, on an active or a passive line. */
+j1850_class_answer j1850_class(bool active, uint32_t width);
+
+/* Whether a clock lies in the sending windows, so that j1850_write takes it. */
+j1850_clock_answer j1850_good_clock(j1850_clock clock);
+
+/* The intervals of a trace, one sample a microsecond: passive, active, passive .. in microseconds; the first may be 0.
+   Lend one word more than there are samples. Refusals, the first that applies: 33 more than 16,384 samples; 34 a gate
+   that is not finite or whose passive level is not below its active one; 32 too few words; 35 a sample, or a sample less
+   the offset, that is not finite. */
+j1850_count_answer j1850_intervals(j1850_gate gate, const float *samples, size_t samples_length, uint32_t *words,
+                                   size_t words_length);
+
+/* The intervals of a frame, opening and closing end included. Bytes are given without check bytes; kind says which
+   response there is, and without one the response bytes are ignored. Lend 101 words, however short the frame. Refusals,
+   the first that applies: 36 a clock outside the sending windows; 37 no main bytes, no response bytes where a response is
+   asked for, more than 12 bytes with checks, or a kind that is none of the three; 32 under 101 words. */
+j1850_count_answer j1850_write(j1850_clock clock, const uint8_t *main_bytes, size_t main_length, uint32_t kind,
+                               const uint8_t *response, size_t response_length, uint32_t *words, size_t words_length);
+
+/* The first frame at or after a position of a recording, whose even places are passive and whose odd ones are active.
+   Only number 0 writes to the lent bytes. To read on, call again with from = next until number is 1 or 2. Refusals, the
+   first that applies: 31 a position past the recording's length; 32 under 12 lent bytes. */
+j1850_read_answer j1850_read(const uint32_t *intervals, size_t intervals_length, size_t from, uint8_t *bytes,
+                             size_t bytes_length);
+
+#ifdef __cplusplus
+}
+#endif
+
+#endif

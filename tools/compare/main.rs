@@ -1,0 +1,111 @@
+//! Puts the same calls to the proved library and to the second program, and compares every answer and all lent memory.
+//!
+//!     compare SEED TIMES           the edges, then random cases; TIMES makes the random part longer
+//!     compare SEED TIMES VARIANT   the same against a second program with one rule altered: it has to end with status 1
+//!     compare variants             the names of these variants
+//!     compare empty                no case at all: it has to end with status 3
+//!
+//! Status 0: all agreed and every answer of document 01 occurred; 1: a difference, which is printed; 2: a wrong command
+//! line; 3: an answer occurred too seldom.
+
+#[allow(dead_code)]
+#[path = "../second/check.rs"]
+mod check;
+mod lines;
+mod other;
+mod ours;
+mod random;
+#[allow(dead_code)]
+#[path = "../second/reading.rs"]
+mod reading;
+mod reading_cases;
+mod small_cases;
+#[allow(dead_code)]
+#[path = "../second/symbol.rs"]
+mod symbol;
+mod tally;
+mod trial;
+#[allow(dead_code)]
+#[path = "../second/volts.rs"]
+mod volts;
+mod volts_cases;
+#[allow(dead_code)]
+#[path = "../second/writing.rs"]
+mod writing;
+mod writing_cases;
+mod wrong;
+
+use trial::Trial;
+use wrong::{Part, Wrong};
+
+fn usage() -> ! {
+    eprintln!("usage: compare SEED TIMES [VARIANT] | compare variants | compare empty");
+    std::process::exit(2)
+}
+
+fn main() {
+    let words: Vec<String> = std::env::args().skip(1).collect();
+    let words: Vec<&str> = words.iter().map(String::as_str).collect();
+    let (seed, times, which) = match words[..] {
+        ["variants"] => {
+            wrong::ALL
+                .iter()
+                .for_each(|(_, _, name)| println!("{name}"));
+            return;
+        }
+        ["empty"] => {
+            finish(&Trial::new(0, Wrong::Nothing));
+            return;
+        }
+        [seed, times] => (
+            seed.parse(),
+            times.parse(),
+            Some((Wrong::Nothing, Part::All)),
+        ),
+        [seed, times, name] => (seed.parse(), times.parse(), wrong::named(name)),
+        _ => usage(),
+    };
+    let (Ok(seed), Ok(times), Some((wrong, part))) = (seed, times, which) else {
+        usage()
+    };
+    let mut trial = Trial::new(seed, wrong);
+    println!("compare: seed {seed}");
+    run(&mut trial, part, times);
+    finish(&trial);
+}
+
+/// The edges of a part, or of all, and then random cases of all in turn.
+fn run(trial: &mut Trial, part: Part, times: usize) {
+    let has = |one| part == Part::All || part == one;
+    if has(Part::Small) {
+        small_cases::edges(trial);
+    }
+    if has(Part::Volts) {
+        volts_cases::edges(trial);
+    }
+    if has(Part::Writing) {
+        writing_cases::edges(trial);
+        writing_cases::round_trips(trial);
+    }
+    if has(Part::Reading) {
+        reading_cases::edges(trial);
+    }
+    for _ in 0..times {
+        small_cases::random(trial, 20_000);
+        volts_cases::random(trial, 20_000);
+        writing_cases::random(trial, 20_000);
+        reading_cases::random(trial, 40_000);
+    }
+}
+
+/// Tells how often each answer occurred, and fails where one of document 01's is missing.
+fn finish(trial: &Trial) {
+    println!("compare: {} calls agree", trial.tally.total());
+    print!("  how often each answer occurred:");
+    trial.tally.print();
+    let missing = trial.tally.missing();
+    missing.iter().for_each(|line| println!("compare: {line}"));
+    if !missing.is_empty() {
+        std::process::exit(3);
+    }
+}

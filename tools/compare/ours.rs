@@ -1,0 +1,139 @@
+//! The proved calls, as include/j1850.h declares them.
+
+#[repr(C)]
+#[derive(Clone, Copy, Debug)]
+pub struct Gate {
+    pub offset: f32,
+    pub active: f32,
+    pub passive: f32,
+}
+
+#[repr(C)]
+#[derive(Clone, Copy, Debug)]
+pub struct Clock {
+    pub short: u32,
+    pub long: u32,
+    pub sof: u32,
+}
+
+#[repr(C)]
+#[derive(Clone, Copy, PartialEq, Debug)]
+pub struct Check {
+    pub number: u32,
+    pub check: u8,
+}
+
+#[repr(C)]
+#[derive(Clone, Copy, PartialEq, Debug)]
+pub struct Class {
+    pub number: u32,
+    pub symbol: u32,
+}
+
+#[repr(C)]
+#[derive(Clone, Copy, PartialEq, Debug)]
+pub struct Timed {
+    pub number: u32,
+    pub good: bool,
+}
+
+#[repr(C)]
+#[derive(Clone, Copy, PartialEq, Debug)]
+pub struct Counted {
+    pub number: u32,
+    pub count: usize,
+}
+
+#[repr(C)]
+#[derive(Clone, Copy, PartialEq, Debug)]
+pub struct Read {
+    pub number: u32,
+    pub kind: u32,
+    pub next: usize,
+    pub opening: usize,
+    pub main: usize,
+    pub response: usize,
+}
+
+mod library {
+    use super::{Check, Class, Clock, Counted, Gate, Read, Timed};
+
+    #[link(name = "j1850", kind = "static")]
+    extern "C" {
+        pub fn j1850_check_byte(bytes: *const u8, length: usize) -> Check;
+        pub fn j1850_class(active: bool, width: u32) -> Class;
+        pub fn j1850_good_clock(clock: Clock) -> Timed;
+        pub fn j1850_intervals(
+            gate: Gate,
+            samples: *const f32,
+            samples_length: usize,
+            words: *mut u32,
+            words_length: usize,
+        ) -> Counted;
+        pub fn j1850_write(
+            clock: Clock,
+            main: *const u8,
+            main_length: usize,
+            kind: u32,
+            response: *const u8,
+            response_length: usize,
+            words: *mut u32,
+            words_length: usize,
+        ) -> Counted;
+        pub fn j1850_read(
+            intervals: *const u32,
+            intervals_length: usize,
+            from: usize,
+            bytes: *mut u8,
+            bytes_length: usize,
+        ) -> Read;
+    }
+}
+
+/// A slice's pointer; null where it is empty, which the header allows.
+fn pointer<T>(slice: &[T]) -> *const T {
+    if slice.is_empty() {
+        std::ptr::null()
+    } else {
+        slice.as_ptr()
+    }
+}
+
+fn lent<T>(slice: &mut [T]) -> *mut T {
+    if slice.is_empty() {
+        std::ptr::null_mut()
+    } else {
+        slice.as_mut_ptr()
+    }
+}
+
+// Each pointer below comes from a slice of the length that goes with it, or is null with length 0, and lent slices are
+// borrowed alone: that is all that the calls ask.
+
+pub fn check_byte(bytes: &[u8]) -> Check {
+    unsafe { library::j1850_check_byte(pointer(bytes), bytes.len()) }
+}
+
+pub fn class(active: bool, width: u32) -> Class {
+    unsafe { library::j1850_class(active, width) }
+}
+
+pub fn good_clock(clock: Clock) -> Timed {
+    unsafe { library::j1850_good_clock(clock) }
+}
+
+pub fn intervals(gate: Gate, samples: &[f32], words: &mut [u32]) -> Counted {
+    let (from, count) = (pointer(samples), samples.len());
+    unsafe { library::j1850_intervals(gate, from, count, lent(words), words.len()) }
+}
+
+pub fn write(clock: Clock, main: &[u8], kind: u32, response: &[u8], words: &mut [u32]) -> Counted {
+    let (bytes, answer) = (pointer(main), pointer(response));
+    let (m, r) = (main.len(), response.len());
+    unsafe { library::j1850_write(clock, bytes, m, kind, answer, r, lent(words), words.len()) }
+}
+
+pub fn read(intervals: &[u32], from: usize, bytes: &mut [u8]) -> Read {
+    let (first, count) = (pointer(intervals), intervals.len());
+    unsafe { library::j1850_read(first, count, from, lent(bytes), bytes.len()) }
+}
