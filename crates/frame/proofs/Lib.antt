@@ -1,3 +1,5 @@
 mod Exits
 mod Searching
 mod Answers
+mod Words
+mod Writes

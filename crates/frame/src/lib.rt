@@ -1,7 +1,10 @@
-// Reading frames out of a recording of intervals. What reading answers is defined, in document 01's words, in the room
-// below; here the frame machine is driven over the recording, and the bytes it tells of are kept until the frame is whole.
+// Frames on the line. What reading and writing answer is defined, in document 01's words, in the room below. Reading
+// drives the frame machine over the recording, and the bytes that it tells of are kept until the frame is whole; writing
+// has a file of its own.
 pub mod machine;
+mod writing;
 
+pub use writing::write;
 ghost use mathlib.Core.Path.{_≡_};
 ghost use Prim.Native.Nat.{_≤_, _<_};
 ghost use lib.ListN.{length};

@@ -1,3 +1,4 @@
 pub mod Settled
 pub mod Tests
 pub mod Each
+pub mod Lent

@@ -1,11 +1,11 @@
 -- Tests that answer true or false, and what is known once one has answered.
-use mathlib.Core.Path.{_≡_, refl}
-use mathlib.Core.Bool.{Bool, true, false, _&&_}
-use mathlib.Core.Logic.{_⊎_, inl, inr}
+use mathlib.Core.Path.{_≡_, refl, sym}
+use mathlib.Core.Bool.{Bool, true, false, _&&_, _||_}
+use mathlib.Core.Logic.{_⊎_, inl, inr, ⊎-elim}
 use Prim.Native.Nat.{ℕ, _≤_, _<_}
 use native.Mathlib.Omega.{arith}
-use lib.Dec.{leb}
-use borrow.Author.Tests.{leb-true, leb-false}
+use lib.Dec.{leb, ltb}
+use borrow.Author.Tests.{leb-true, leb-false, ltb-true, ltb-false, lt-ltb, le-ltb}
 
 -- no test is both true and false
 pub never : {A : Type 0} {b : Bool} → b ≡ true → b ≡ false → A
@@ -23,3 +23,24 @@ upTo w n = go (leb w n) refl
     go : (b : Bool) → leb w n ≡ b → (w ≤ n) ⊎ (n < w)
     go true e = inl (leb-true w n e)
     go false e = inr (leb-false w n e)
+
+-- one of two tests holds where the second does
+pub or-right : (a b : Bool) → b ≡ true → (a || b) ≡ true
+or-right true b e = refl
+or-right false b e = e
+
+-- two comparisons that hold in the same cases are the same test
+pub ltb-same : (a b c d : ℕ) → (a < b → c < d) → (c < d → a < b) → ltb a b ≡ ltb c d
+ltb-same a b c d f g = go (ltb a b) refl
+  where
+    go : (t : Bool) → ltb a b ≡ t → t ≡ ltb c d
+    go true e = sym (lt-ltb c d (f (ltb-true a b e)))
+    go false e = sym (le-ltb c d (other (ltb-false a b e)))
+      where
+        other : b ≤ a → d ≤ c
+        other h = ⊎-elim (λ k. k) (λ k. absurd (omega (arith, g k))) (upTo d c)
+
+-- where neither of two tests holds, each fails
+pub neither : (a b : Bool) → (a || b) ≡ false → (a ≡ false) × (b ≡ false)
+neither true b e = never refl e
+neither false b e = (refl, e)

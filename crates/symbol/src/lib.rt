@@ -68,18 +68,20 @@ const SOF_NOMINAL: u32 = 200;
 
 const END_SENT: u32 = 300;
 
-// The symbol of a passive interval.
+// The symbol of a passive interval, where a short bit is a 0.
 fn class_passive(w: u32) -> Symbol
     ensures { λ r. ⌜ r ≡ classOf false w ⌝ }
 {
+    let short = Symbol::Bit0;
+    let long = Symbol::Bit1;
     if w <= NOISE_LAST {
         return Symbol::Noise;
     }
     if w <= SHORT_LAST {
-        return Symbol::Bit0;
+        return short;
     }
     if w <= LONG_LAST {
-        return Symbol::Bit1;
+        return long;
     }
     if w <= SOF_LAST {
         return Symbol::Eod;
@@ -90,18 +92,20 @@ fn class_passive(w: u32) -> Symbol
     Symbol::Ifs
 }
 
-// The symbol of an active interval.
+// The symbol of an active interval, where a short bit is a 1.
 fn class_active(w: u32) -> Symbol
     ensures { λ r. ⌜ r ≡ classOf true w ⌝ }
 {
+    let short = Symbol::Bit1;
+    let long = Symbol::Bit0;
     if w <= NOISE_LAST {
         return Symbol::Noise;
     }
     if w <= SHORT_LAST {
-        return Symbol::Bit1;
+        return short;
     }
     if w <= LONG_LAST {
-        return Symbol::Bit0;
+        return long;
     }
     if w <= SOF_LAST {
         return Symbol::Sof;
@@ -221,11 +225,11 @@ fn sent_active(clock: Clock, symbol: Symbol) -> Sent
 fn sent_passive(clock: Clock, symbol: Symbol) -> Sent
     ensures { λ r. ⌜ r ≡ sentOf clock false symbol ⌝ }
 {
-    let sof = clock.sof;
+    let eod = clock.sof;
     match symbol {
         Symbol::Bit0 => Sent::For(bit_width(clock, false, false)),
         Symbol::Bit1 => Sent::For(bit_width(clock, false, true)),
-        Symbol::Eod => Sent::For(sof),
+        Symbol::Eod => Sent::For(eod),
         Symbol::Ifs => Sent::For(Micros(END_SENT)),
         Symbol::Noise => Sent::Never,
         Symbol::Sof => Sent::Never,

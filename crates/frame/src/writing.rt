@@ -1,0 +1,186 @@
+// Writing: a message becomes the words of a frame.
+ghost use Prim.Native.Nat.{_+_, _*_, _≤_, _<_};
+ghost use mathlib.Core.Path.{_≡_};
+ghost use mathlib.Core.Bool.{true, false};
+ghost use mathlib.Core.List.{[], _∷_, _++_};
+ghost use lib.ListN.{length};
+ghost use lib.Seq.{sets};
+ghost use lib.Dec.{eqb, ltb, leb};
+ghost use mathlib.Core.Bool.{_||_};
+ghost use Rattle.checkbyte.specs.Register.{withCheck};
+ghost use Rattle.symbol.specs.Clocks.{goodOf};
+ghost use Rattle.framing.specs.Bits.{odd, bitsOfByte};
+ghost use Rattle.symbol.specs.Sending.{bitWidth};
+ghost use Rattle.framing.specs.Writing.{bitWidths, byteWidths, responseWidths, frameWords, badMessage, WritePromise};
+use framing::Response;
+use framing::Writing;
+use symbol::Clock;
+
+// The most bytes of a frame, its checks included, and the words that the longest one takes.
+const MOST_BYTES: usize = 12;
+
+const MOST_WORDS: usize = 101;
+
+// The width of the opening and of the closing end.
+const END_WIDTH: u32 = 300;
+
+// Writes the frame of a message, at a clock, into lent words. The bytes are given without check bytes: they are added.
+// The response's bytes count only where a response is asked for. A refusal changes nothing.
+pub fn write(
+    clock: Clock,
+    main: &[u8],
+    kind: Response,
+    response: &[u8],
+    lent: &mut [u32],
+) -> Writing
+    ensures { λ r. ⌜ WritePromise clock (now (main .entry)) kind (now (response .entry)) (now (lent .entry)) (now (lent .exit)) r ⌝ }
+{
+    if !symbol::good_clock(clock) {
+        return Writing::BadClock;
+    }
+    if bad_message(main, kind, response) {
+        return Writing::BadMessage;
+    }
+    if lent.len() < MOST_WORDS {
+        return Writing::FewLentWords;
+    }
+    Writing::Words(put_frame(clock, main, kind, response, lent))
+}
+
+// Whether the message is empty, or a response that is asked for is, or their bytes with checks are too many.
+fn bad_message(main: &[u8], kind: Response, response: &[u8]) -> bool
+    ensures { λ r. ⌜ r ≡ badMessage (now (main .entry)) kind (now (response .entry)) ⌝ }
+{
+    let m = main.len();
+    let r = response.len();
+    if m == 0 {
+        return true;
+    }
+    if MOST_BYTES <= m {
+        return true;
+    }
+    let room = MOST_BYTES - 1 - m;
+    match kind {
+        Response::Without => false,
+        Response::Plain => bad_response(r, room),
+        Response::Checked => bad_checked(r, room),
+    }
+}
+
+// Whether a response of so many bytes is empty, or too long for the room that the main part leaves.
+fn bad_response(response: usize, room: usize) -> bool
+    ensures { λ r. ⌜ r ≡ eqb response 0 || ltb room response ⌝ }
+{
+    if response == 0 {
+        return true;
+    }
+    room < response
+}
+
+// The same for a response with a check byte of its own.
+fn bad_checked(response: usize, room: usize) -> bool
+    ensures { λ r. ⌜ r ≡ eqb response 0 || leb room response ⌝ }
+{
+    if response == 0 {
+        return true;
+    }
+    room <= response
+}
+
+// The whole frame: the opening, the SOF, the main part with its check byte, the response, the closing end.
+fn put_frame(clock: Clock, main: &[u8], kind: Response, response: &[u8], lent: &mut [u32]) -> usize
+    requires { ⌜ length (frameWords clock (now main) kind (now response)) ≤ length (now lent) ⌝ }
+    ensures { λ r. ⌜ r ≡ length (frameWords clock (now (main .entry)) kind (now (response .entry))) ⌝ }
+    ensures { λ _. ⌜ now (lent .exit) ≡ sets (now (lent .entry)) 0 (frameWords clock (now (main .entry)) kind (now (response .entry))) ⌝ }
+{
+    let sof = clock.sof;
+    lent[0] = END_WIDTH;
+    lent[1] = sof.0;
+    let eod = put_checked(clock, main, lent, 2);
+    let closing = put_response(clock, kind, response, lent, eod);
+    lent[closing] = END_WIDTH;
+    closing + 1
+}
+
+// The response, from the EOD on, or nothing where none is asked for.
+fn put_response(clock: Clock, kind: Response, response: &[u8], lent: &mut [u32], at: usize) -> usize
+    requires { ⌜ at + length (responseWidths clock kind (now response)) ≤ length (now lent) ⌝ }
+    ensures { λ r. ⌜ r ≡ at + length (responseWidths clock kind (now (response .entry))) ⌝ }
+    ensures { λ _. ⌜ now (lent .exit) ≡ sets (now (lent .entry)) at (responseWidths clock kind (now (response .entry))) ⌝ }
+{
+    match kind {
+        Response::Without => at,
+        Response::Plain => {
+            let first = put_eod(clock, true, lent, at);
+            put_bytes(clock, response, lent, first)
+        }
+        Response::Checked => {
+            let first = put_eod(clock, false, lent, at);
+            put_checked(clock, response, lent, first)
+        }
+    }
+}
+
+// The EOD and the normalization bit: a short one, which is a 1, for a response without a check byte.
+fn put_eod(clock: Clock, plain: bool, lent: &mut [u32], at: usize) -> usize
+    requires { ⌜ at + 2 ≤ length (now lent) ⌝ }
+    ensures { λ r. ⌜ r ≡ at + 2 ⌝ }
+    ensures { λ _. ⌜ now (lent .exit) ≡ sets (now (lent .entry)) at (clock .sof .0 ∷ bitWidth clock true plain .0 ∷ []) ⌝ }
+{
+    let sof = clock.sof;
+    let normalization = symbol::bit_width(clock, true, plain);
+    lent[at] = sof.0;
+    lent[at + 1] = normalization.0;
+    at + 2
+}
+
+// Bytes and their check byte.
+fn put_checked(clock: Clock, bytes: &[u8], lent: &mut [u32], at: usize) -> usize
+    requires { ⌜ at + 8 * (length (now bytes) + 1) ≤ length (now lent) ⌝ }
+    ensures { λ r. ⌜ r ≡ at + 8 * (length (now (bytes .entry)) + 1) ⌝ }
+    ensures { λ _. ⌜ now (lent .exit) ≡ sets (now (lent .entry)) at (byteWidths clock (withCheck (now (bytes .entry)))) ⌝ }
+{
+    let check = checkbyte::check_byte(bytes);
+    let last = put_bytes(clock, bytes, lent, at);
+    put_byte(clock, check, lent, last)
+}
+
+// Bytes, one after the other.
+fn put_bytes(clock: Clock, bytes: &[u8], lent: &mut [u32], at: usize) -> usize
+    requires { ⌜ at + 8 * length (now bytes) ≤ length (now lent) ⌝ }
+    ensures { λ r. ⌜ r ≡ at + 8 * length (now (bytes .entry)) ⌝ }
+    ensures { λ _. ⌜ now (lent .exit) ≡ sets (now (lent .entry)) at (byteWidths clock (now (bytes .entry))) ⌝ }
+{
+    let mut next = at;
+    let mut i = 0;
+    while i < bytes.len() {
+        next = put_byte(clock, bytes[i], lent, next);
+        i += 1;
+    }
+    next
+}
+
+// The eight bits of a byte, the high bit first, starting passive.
+fn put_byte(clock: Clock, b: u8, lent: &mut [u32], at: usize) -> usize
+    requires { ⌜ at + 8 ≤ length (now lent) ⌝ }
+    ensures { λ r. ⌜ r ≡ at + 8 ⌝ }
+    ensures { λ _. ⌜ now (lent .exit) ≡ sets (now (lent .entry)) at (bitWidths clock false (bitsOfByte b)) ⌝ }
+{
+    lent[at] = width(clock, false, b / 128);
+    lent[at + 1] = width(clock, true, b / 64);
+    lent[at + 2] = width(clock, false, b / 32);
+    lent[at + 3] = width(clock, true, b / 16);
+    lent[at + 4] = width(clock, false, b / 8);
+    lent[at + 5] = width(clock, true, b / 4);
+    lent[at + 6] = width(clock, false, b / 2);
+    lent[at + 7] = width(clock, true, b);
+    at + 8
+}
+
+// The width of a number's lowest bit.
+fn width(clock: Clock, active: bool, n: u8) -> u32
+    ensures { λ r. ⌜ r ≡ bitWidth clock active (odd n) .0 ⌝ }
+{
+    let w = symbol::bit_width(clock, active, n % 2 == 1);
+    w.0
+}

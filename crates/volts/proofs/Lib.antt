@@ -1,0 +1,4 @@
+pub mod Finiteness
+pub mod Scanning
+pub mod Turns
+pub mod Rules

@@ -1,0 +1,87 @@
+-- `volts::intervals` meets its contract: at each return the tests on the way are the rule of the answer that is given.
+-- Assumes nothing.
+use mathlib.Core.Path.{_≡_, refl, sym, ap, _∙_}
+use borrow.Author.Needs.{needs}
+use lib.ListN.{length}
+use Rattle.volts.specs.ExactlyWhen.{promised}
+use Rattle.volts.proofs.Rules.{too-many, not-too-many, too-few, not-too-few, gate-test, none}
+use Rattle.volts.proofs.intervals.Statement.{statement}
+use Rattle.volts.proofs.intervals.Tie as tie
+
+returns : tie.Need-returns
+returns c = promised _ _ _ (too-many _ (c .if1 .taken)) refl
+
+good-gate-requires : tie.Need-good-gate-requires
+good-gate-requires c κs = search needs
+
+returns-2 : tie.Need-returns-2
+returns-2 c =
+    let gate = c .before in
+    promised _ _ _ (not-too-many _ (gate .before .if1 .left), gate-test _ (gate .good-gate .ensures) (c .if2 .taken)) refl
+
+returns-3 : tie.Need-returns-3
+returns-3 c =
+    let gate = c .before .before in
+    promised _ _ _ (not-too-many _ (gate .before .if1 .left), gate-test _ (gate .good-gate .ensures) (c .before .if2 .left), too-few _ _ (c .if3 .taken)) refl
+
+some-unusable-requires : tie.Need-some-unusable-requires
+some-unusable-requires c κs = search needs
+
+returns-4 : tie.Need-returns-4
+returns-4 c =
+    let scan = c .before in
+    let gate = scan .before .before .before in
+    promised _ _ _ (
+      not-too-many _ (gate .before .if1 .left),
+      gate-test _ (gate .good-gate .ensures) (scan .before .before .if2 .left),
+      not-too-few _ _ (scan .before .if3 .left),
+      sym (scan .some-unusable .ensures) ∙ c .if4 .taken,
+    ) refl
+
+returns-5 : tie.Need-returns-5
+returns-5 c =
+    let scan = c .before .before in
+    let gate = scan .before .before .before in
+    let args = gate .before .before .before .before .args in
+    let empty = none (args .gate) (args .samples .now) (c .if5 .taken) in
+    promised _ _ _ (
+      not-too-many _ (gate .before .if1 .left),
+      gate-test _ (gate .good-gate .ensures) (scan .before .before .if2 .left),
+      not-too-few _ _ (scan .before .if3 .left),
+      sym (scan .some-unusable .ensures) ∙ c .before .if4 .left,
+      rw empty,
+    ) (rw empty)
+
+write-intervals-requires : tie.Need-write-intervals-requires
+write-intervals-requires c κs = search needs
+
+same-length : tie.Need-same-length
+same-length c = search needs
+
+returns-6 : tie.Need-returns-6
+returns-6 c =
+    let written = c .before .before in
+    let scan = written .before .before .before .before in
+    let gate = scan .before .before .before in
+    promised _ _ _ (
+      not-too-many _ (gate .before .if1 .left),
+      gate-test _ (gate .good-gate .ensures) (scan .before .before .if2 .left),
+      not-too-few _ _ (scan .before .if3 .left),
+      sym (scan .some-unusable .ensures) ∙ written .before .before .before .if4 .left,
+      written .write-intervals .ensures .0,
+    ) (written .write-intervals .ensures .1)
+
+pub intervals-spec : {M : Type 1} → statement M
+intervals-spec =
+    tie.close
+    (tie.spec
+    returns
+    good-gate-requires
+    returns-2
+    returns-3
+    some-unusable-requires
+    returns-4
+    returns-5
+    write-intervals-requires
+    same-length
+    returns-6)

@@ -1,0 +1,11 @@
+pub mod Judging
+pub mod Levels
+pub mod Intervals
+pub mod Tracing
+pub mod Settling
+pub mod ExactlyWhen
+pub mod Somewhere
+pub mod IntervalLaws
+pub mod Expansion
+pub mod Starred
+pub mod Edges

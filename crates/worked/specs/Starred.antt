@@ -1,0 +1,87 @@
+-- The starred items of document 01, "Worked on paper", from the definitions alone: one statement over one list.
+use Prim.Native.Nat.{ℕ}
+use mathlib.Core.Path.{_≡_, refl}
+use mathlib.Core.Bool.{Bool, true, false, _&&_}
+use mathlib.Core.List.{List, [], _∷_}
+use lib.Count.{trailingZeros}
+use lib.Dec.{eqb}
+use lib.Ieee.{Float, ofInt, sub, add, neg, sum, round, size, units, odd, span, climb, lt, le, eq}
+use Rattle.symbol.specs.declared.Symbol.{Symbol}
+use Rattle.symbol.specs.declared.Symbol.the-variants.{Noise, Bit0, Bit1, Eod, Eof}
+use Rattle.symbol.specs.Classes.{classOf}
+use Rattle.symbol.specs.Clocks.{nominalClock}
+use Rattle.checkbyte.specs.Register.{checkOf, registerFrom, stepOf}
+use Rattle.volts.specs.declared.Gate.{Gate}
+use Rattle.volts.specs.Judging.{judged, against, isFinite}
+use Rattle.volts.specs.Intervals.{intervalsOf}
+use Rattle.volts.specs.Starred.{usualGate, volts, sameWidths}
+use Rattle.framing.specs.Bits.{bitsOf}
+use Rattle.framing.specs.Line.{is}
+use Rattle.contest.specs.declared.Station.{Station}
+use Rattle.contest.specs.Round.{asked, shortest, longest, onLine, play}
+use Rattle.contest.specs.Contest.{pulsesOf, sofsAsked, sumOf, contestOf, roundOf}
+use Rattle.contest.specs.Worked.{holds, clockOf, losesAt, lasts}
+
+-- A starred item: what is given, and what document 01 says comes of it.
+pub data Item : Type 0 where
+  -- the check byte of a message
+  checkIs : (message : List ℕ) → (check : ℕ) → Item
+  -- the symbol of a width at a level
+  symbolIs : (active : Bool) → (width : ℕ) → Symbol → Item
+  -- the intervals of samples through a gate
+  intervalsAre : Gate → (samples : List Float) → (widths : List ℕ) → Item
+  -- in a round of two stations, the bit at which the first loses to the second
+  lostAt : Station → Station → (bit : ℕ) → Item
+  -- the words and the line time of a round of two stations
+  roundLasts : Station → Station → (words time : ℕ) → Item
+
+-- the item is as document 01 says
+unfoldable pub isSo : Item → Bool
+isSo (checkIs message check) = eqb (checkOf message) check
+isSo (symbolIs active width symbol) = is symbol (classOf active width)
+isSo (intervalsAre gate samples widths) = sameWidths (intervalsOf gate samples) widths
+isSo (lostAt a b bit) = losesAt a b bit
+isSo (roundLasts a b words time) = lasts a b words time
+
+unfoldable pub all : List Item → Bool
+all [] = true
+all (item ∷ items) = isSo item && all items
+
+-- the stations of the starred contests
+abbrev quick : Station
+quick = holds (clockOf 49 112 182) (0xFF ∷ [])
+
+abbrev longer : Station
+longer = holds nominalClock (0xFF ∷ 0xFF ∷ [])
+
+abbrev ones : Station
+ones = holds nominalClock (0xFF ∷ [])
+
+abbrev zeros : Station
+zeros = holds nominalClock (0x00 ∷ [])
+
+unfoldable pub items : List Item
+items =
+    checkIs (0x00 ∷ []) 0x3B ∷
+    checkIs (0xFF ∷ []) 0xFF ∷
+    checkIs (0xFF ∷ 0xFF ∷ []) 0x3B ∷
+    checkIs (0xFF ∷ 0x01 ∷ []) 0xE2 ∷
+    checkIs (0x00 ∷ 0xC4 ∷ []) 0xFF ∷
+    symbolIs true 34 Noise ∷
+    symbolIs true 35 Bit1 ∷
+    symbolIs true 96 Bit1 ∷
+    symbolIs true 97 Bit0 ∷
+    symbolIs false 163 Bit1 ∷
+    symbolIs false 164 Eod ∷
+    symbolIs false 239 Eod ∷
+    symbolIs false 240 Eof ∷
+    intervalsAre usualGate (volts 0 ∷ volts 7 ∷ volts 3 ∷ volts 3 ∷ volts 1 ∷ []) (1 ∷ 3 ∷ 1 ∷ []) ∷
+    lostAt quick longer 17 ∷
+    roundLasts quick longer 27 2740 ∷
+    lostAt ones zeros 1 ∷
+    []
+
+-- Every starred item is so.
+pub starred : all items ≡ true
+unfolding all items isSo checkOf registerFrom stepOf classOf judged against isFinite ofInt sub add neg sum round size units odd span climb lt le eq trailingZeros losesAt lasts roundOf contestOf play asked shortest longest onLine pulsesOf sofsAsked sumOf bitsOf
+starred = refl

@@ -1,0 +1,74 @@
+//! The second program: document 01 worked again by other methods, to be compared against.
+
+mod bench;
+mod bench_trials;
+mod check;
+mod frame_trials;
+mod reading;
+mod self_test;
+mod symbol;
+mod text;
+mod volts;
+mod worked;
+mod writing;
+
+use std::io::{Read, Write};
+use std::process::ExitCode;
+
+const USAGE: &str = "usage: second worked | second desk [FILE] | second self-test";
+
+fn input(file: Option<&String>) -> std::io::Result<Vec<u8>> {
+    let mut bytes = Vec::new();
+    match file {
+        Some(file) => bytes = std::fs::read(file)?,
+        None => {
+            std::io::stdin().read_to_end(&mut bytes)?;
+        }
+    }
+    Ok(bytes)
+}
+
+fn print(bytes: &[u8]) -> std::io::Result<()> {
+    let mut out = std::io::stdout().lock();
+    out.write_all(bytes)?;
+    out.flush()
+}
+
+fn run_self_test() -> ExitCode {
+    match self_test::self_test() {
+        Ok(cases) => {
+            println!("self-test: {cases} cases, all right");
+            ExitCode::SUCCESS
+        }
+        Err(case) => {
+            println!("self-test: wrong: {case}");
+            ExitCode::FAILURE
+        }
+    }
+}
+
+fn finish(printed: std::io::Result<()>) -> ExitCode {
+    match printed {
+        Ok(()) => ExitCode::SUCCESS,
+        Err(error) => {
+            eprintln!("second: {error}");
+            ExitCode::FAILURE
+        }
+    }
+}
+
+fn main() -> ExitCode {
+    let words: Vec<String> = std::env::args().skip(1).collect();
+    let names: Vec<&str> = words.iter().map(String::as_str).collect();
+    match names.as_slice() {
+        ["worked"] => finish(print(worked::worked().as_bytes())),
+        ["desk"] | ["desk", _] => {
+            finish(input(words.get(1)).and_then(|bytes| print(&text::desk(&bytes))))
+        }
+        ["self-test"] => run_self_test(),
+        _ => {
+            eprintln!("{USAGE}");
+            ExitCode::from(2)
+        }
+    }
+}
