@@ -12,7 +12,6 @@ use Rattle.framing.specs.Faults.{mostBytes}
 use Rattle.frame.specs.declared.machine.Phase.{Phase}
 use Rattle.frame.specs.declared.machine.Phase.the-variants.{Sof, Main, Normalization, Plain, Checked}
 use Rattle.frame.specs.declared.machine.Machine.{Machine}
-use Rattle.frame.specs.declared.machine.Event.{Event}
 use Rattle.frame.specs.declared.machine.Event.the-variants.{Going, Byte, Closed, Faulty}
 use Rattle.frame.specs.declared.machine.Stepped.{Stepped}
 use Rattle.frame.specs.declared.machine.Asked.{Asked}

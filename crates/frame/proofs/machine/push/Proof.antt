@@ -1,6 +1,7 @@
 -- `frame::machine::push` meets its contract, test by test.
-use mathlib.Core.Path.{_∙_}
-use Rattle.frame.proofs.Exits.{push-full, push-open, push-whole}
+use mathlib.Core.Path.{sym, _∙_}
+use Rattle.frame.proofs.Exits.{push-open, push-whole}
+use Rattle.frame.specs.BitDoes.{push-full}
 use borrow.Author.Needs.{needs}
 use Rattle.frame.proofs.machine.push.Statement.{statement}
 use Rattle.frame.proofs.machine.push.Tie as tie
@@ -9,7 +10,7 @@ fail-requires : tie.Need-fail-requires
 fail-requires c κs = search needs
 
 returns : tie.Need-returns
-returns c = c .fail .ensures ∙ push-full _ _ (c .before .if1 .taken)
+returns c = c .fail .ensures ∙ sym (push-full _ _ (c .before .if1 .taken))
 
 cast-bits : tie.Need-cast-bits
 cast-bits c = search needs

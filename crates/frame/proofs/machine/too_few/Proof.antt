@@ -1,6 +1,5 @@
 -- `frame::machine::too_few` meets its contract.
 use Rattle.frame.proofs.Exits.{few-short, few-by}
-use borrow.Author.Needs.{needs}
 use Rattle.frame.proofs.machine.too_few.Statement.{statement}
 use Rattle.frame.proofs.machine.too_few.Tie as tie
 
