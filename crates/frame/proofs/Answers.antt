@@ -1,10 +1,8 @@
 -- Each answer of reading tells of the outcome that document 01 gives, from what the search and the machine have shown.
 use Prim.Native.Nat.{ℕ, _+_, _-_, _≤_, _<_}
-use mathlib.Core.Path.{_≡_, refl, sym, ap, _∙_}
-use mathlib.Core.Bool.{Bool, true, false, cond}
-use mathlib.Core.List.{List, [], _∷_, _++_, append-nil}
+use mathlib.Core.Path.{_≡_, refl, ap, _∙_}
+use mathlib.Core.List.{List, _++_, append-nil}
 use native.Mathlib.Omega.{arith}
-use lib.Dec.{leb, eqb}
 use lib.ListN.{length, take, drop, length-append}
 use lib.Seq.{take-length, length-take-le}
 use borrow.Author.Tests.{le-leb, lt-leb, lt-ltb, le-ltb}
@@ -18,7 +16,7 @@ use Rattle.framing.specs.Faults.{mostBytes, facts, mainBytes, responseBytes}
 use Rattle.framing.specs.Reading.{faultAt, decides, decided, readBy, reading}
 use Rattle.framing.specs.Answers.{faultNumber, ReadPromise}
 use Rattle.machine.specs.declared.Machine.{Machine}
-use Rattle.machine.specs.Holding.{soFar, holding, Kept}
+use Rattle.machine.specs.Holding.{holding}
 use Rattle.machine.specs.HoldingLaws.{count-of}
 use Rattle.frame.specs.Following.{Before, some-fault}
 use Rattle.frame.specs.Answering.{placed, frameOf, framedOf, laid, Meets}

@@ -1,17 +1,16 @@
 -- What the two searches of reading cite: for the opening, at even places alone, and for the interval that decides.
 use Prim.Native.Nat.{ℕ, zero, suc, _+_, _-_, _%_, _≤_, _<_}
 use mathlib.Core.Path.{_≡_, refl, sym, ap, _∙_}
-use mathlib.Core.Bool.{Bool, true, false, cond, not, _&&_}
+use mathlib.Core.Bool.{Bool, true, false, cond}
 use mathlib.Core.List.{List}
 use mathlib.Core.Logic.{_⊎_, inl, inr}
 use native.Mathlib.Omega.{arith}
 use native.Mathlib.Nat.{add-zero}
-use lib.Dec.{eqb}
 use lib.ListN.{length, getD}
 use borrow.Author.Tests.{eq-eqb, ne-eqb}
 use Rattle.symbol.specs.Classes.{endOf}
 use Rattle.laws.specs.Tests.{upTo}
-use Rattle.framing.specs.Line.{activeAt, endAt, Found as FoundPlace, nowhere, at, first, firstIn, opening}
+use Rattle.framing.specs.Line.{endAt, Found as FoundPlace, nowhere, at, first, firstIn, opening}
 use Rattle.framing.specs.Reading.{decides}
 use Rattle.framing.specs.FirstLaws.{IsFirst, first-at, first-empty}
 use Rattle.frame.specs.declared.Found.{Found}

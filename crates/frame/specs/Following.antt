@@ -1,7 +1,7 @@
 -- Following a frame interval by interval: what is known before each, and what the machine's event at one says of it.
 use Prim.Native.Nat.{ℕ, suc, _+_, _≤_, _<_}
 use mathlib.Core.Path.{_≡_, refl, sym, ap, subst, _∙_}
-use mathlib.Core.Bool.{Bool, true, false, not, _||_}
+use mathlib.Core.Bool.{Bool, true, false}
 use mathlib.Core.List.{List, [], _∷_, _++_}
 use native.Mathlib.Omega.{arith}
 use lib.Dec.{eqb}
@@ -16,7 +16,7 @@ use Rattle.framing.specs.Bits.{bytes}
 use Rattle.framing.specs.Line.{activeAt, symbolAt, endAt}
 use Rattle.framing.specs.Standing.{Standing, atSof, stands}
 use Rattle.framing.specs.StandingLaws.{after, stands-sof, stands-next}
-use Rattle.framing.specs.Faults.{mostBytes, fault}
+use Rattle.framing.specs.Faults.{mostBytes}
 use Rattle.framing.specs.Reading.{faultAt, decides}
 use Rattle.framing.specs.Answers.{faultNumber}
 use Rattle.machine.specs.declared.Machine.{Machine}

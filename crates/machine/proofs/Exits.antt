@@ -4,9 +4,9 @@ use mathlib.Core.Path.{_≡_, refl, sym}
 use mathlib.Core.Bool.{Bool, true, false, cond, not, _&&_}
 use native.Mathlib.Omega.{arith}
 use lib.Dec.{eqb, ltb}
-use borrow.Author.Tests.{lt-ltb, le-ltb, ltb-true, ltb-false, le-leb, lt-leb, eq-eqb, ne-eqb}
+use borrow.Author.Tests.{lt-ltb, le-ltb, ltb-true, ltb-false, lt-leb, eq-eqb, ne-eqb}
 use Rattle.checkbyte.specs.Register.{residue, stepOf as registerStep}
-use Rattle.framing.specs.declared.Fault.the-variants.{NoSof, LateSof, SplitByte, FewBytes, WrongCheck, ThirteenthByte}
+use Rattle.framing.specs.declared.Fault.the-variants.{NoSof, LateSof, SplitByte, FewBytes, WrongCheck}
 use Rattle.framing.specs.Bits.{value}
 use Rattle.framing.specs.Faults.{mostBytes}
 use Rattle.machine.specs.declared.Phase.the-variants.{Main}
@@ -29,10 +29,6 @@ few-by count began fewest h = go (ltb (count - fewest) began) refl
 
 -- A bit of a byte. The bits of the byte so far are `bits`.
 module _ (m : Machine) (one : Bool) where
-  pub push-full : mostBytes ≤ m .count → faulty m ThirteenthByte ≡ pushOf m one
-  unfolding pushOf
-  push-full h = rw (le-leb mostBytes (m .count) h)
-
   pub push-open : (v bits : ℕ) → m .count < mostBytes → v ≡ value one → m .partial * 2 + v < 256 → bits ≡ m .partial * 2 + v
       → _≡_ {A = Stepped} (record { machine = record { phase = m .phase; partial = bits; count = m .count; began = m .began; register = m .register }; event = Going }) (pushOf m one)
   unfolding pushOf

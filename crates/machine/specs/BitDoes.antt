@@ -1,5 +1,5 @@
 -- A bit's width, in each standing: no SOF, the normalization bit, one bit more, or the first bit of a thirteenth byte.
-use Prim.Native.Nat.{ℕ, zero, suc, _+_, _-_, _*_, _≤_, _<_}
+use Prim.Native.Nat.{ℕ, _+_, _-_, _*_, _≤_, _<_}
 use mathlib.Core.Path.{_≡_, refl, sym, ap, _∙_}
 use mathlib.Core.Bool.{Bool, true, false, cond}
 use mathlib.Core.Logic.{_⊎_, inl, inr}
@@ -61,7 +61,8 @@ push-by phase part before all all′ b h same more = go (one-more part b)
         (rw (lt-leb mostBytes (length all) h, s, le-ltb (256 + n) 256 (omega arith), off, more n e, one-longer all n, f, no-bit, e, register-more allOnes (bytes part) n))
         (more n e)
 
-push-full : (m : Machine) (b : Bool) → mostBytes ≤ m .count → pushOf m b ≡ faulty m ThirteenthByte
+-- A thirteenth byte is at fault.
+pub push-full : (m : Machine) (b : Bool) → mostBytes ≤ m .count → pushOf m b ≡ faulty m ThirteenthByte
 unfolding pushOf
 push-full m b h = rw (le-leb mostBytes (m .count) h)
 

@@ -1,25 +1,21 @@
 -- An EOD or an end, in each standing: the machine's tests are document 01's rows 16, 17, 18 and 19, in their order.
-use Prim.Native.Nat.{ℕ, _+_, _-_, _*_, _≤_, _<_}
-use mathlib.Core.Path.{_≡_, refl, sym, ap, _∙_}
+use Prim.Native.Nat.{ℕ, _+_, _-_}
+use mathlib.Core.Path.{_≡_, refl, _∙_}
 use mathlib.Core.Bool.{Bool, true, false, cond, not, _&&_}
-use mathlib.Core.List.{List, [], _∷_, _++_, append-nil}
+use mathlib.Core.List.{List, _++_, append-nil}
 use native.Mathlib.Omega.{arith}
 use lib.Dec.{eqb, ltb}
 use lib.ListN.{length, length-append}
 use borrow.Author.Tests.{lt-ltb, le-ltb, ltb-true, ltb-false}
 use Rattle.symbol.specs.declared.Symbol.{Symbol}
 use Rattle.symbol.specs.declared.Symbol.the-variants.{Eod, Eof, Ifs}
-use Rattle.symbol.specs.Classes.{ends}
 use Rattle.checkbyte.specs.Register.{registerOf, registerFrom, residue}
-use Rattle.framing.specs.declared.Fault.{Fault}
 use Rattle.framing.specs.declared.Fault.the-variants.{SplitByte, FewBytes, WrongCheck, EodAfterResponse}
 use Rattle.framing.specs.Bits.{bytes}
 use Rattle.framing.specs.BitLaws.{leftOver, behind, left-none}
 use Rattle.framing.specs.Standing.{plain, checked, Standing, atSof, inMain, atNormalization, inResponse}
 use Rattle.framing.specs.Faults.{facts, partBytes, checksOut, whole, fault}
-use Rattle.framing.specs.StandingLaws.{after}
 use Rattle.machine.specs.declared.Stepped.{Stepped}
-use Rattle.machine.specs.declared.Event.the-variants.{Going}
 use Rattle.machine.specs.Steps.{faulty, closing, askedOf, eodOf, closeOf}
 use Rattle.machine.specs.Holding.{phaseOf, earlier, soFar, holding}
 use Rattle.machine.specs.HoldingLaws.{parts}

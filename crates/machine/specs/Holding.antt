@@ -2,12 +2,12 @@
 use Prim.Native.Nat.{ℕ, _+_}
 use mathlib.Core.Path.{_≡_}
 use mathlib.Core.Bool.{Bool}
-use mathlib.Core.List.{List, [], _∷_, _++_}
+use mathlib.Core.List.{List, [], _++_}
 use lib.ListN.{length, take}
 use Rattle.checkbyte.specs.Register.{registerOf}
 use Rattle.framing.specs.Bits.{bytes}
 use Rattle.framing.specs.BitLaws.{leftOver, behind}
-use Rattle.framing.specs.Standing.{Kind, plain, checked, Standing, atSof, inMain, atNormalization, inResponse}
+use Rattle.framing.specs.Standing.{plain, checked, Standing, atSof, inMain, atNormalization, inResponse}
 use Rattle.framing.specs.Faults.{mostBytes, facts, mainBytes, responseBytes}
 use Rattle.machine.specs.declared.Phase.{Phase}
 use Rattle.machine.specs.declared.Phase.the-variants.{Sof, Main, Normalization, Plain, Checked}

@@ -1,7 +1,7 @@
 -- How the numbers that the machine holds hang together: it counts the bytes so far, which are those before the part and
 -- the part's own, and the kept bytes have room for them.
 use Prim.Native.Nat.{ℕ, _+_, _≤_}
-use mathlib.Core.Path.{_≡_, refl, sym, ap, _∙_}
+use mathlib.Core.Path.{_≡_, refl, ap, _∙_}
 use mathlib.Core.List.{List, _++_, append-nil}
 use native.Mathlib.Omega.{arith}
 use lib.ListN.{length, length-append, length-take}

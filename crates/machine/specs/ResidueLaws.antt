@@ -1,6 +1,6 @@
 -- The machine judges a check byte by the register alone. That is document 01's test: the register over a part comes to
 -- 0xC4 exactly where the part's last byte is the check byte of those before it.
-use Prim.Native.Nat.{ℕ, zero, suc, _+_, _-_, _*_, _≤_, _<_}
+use Prim.Native.Nat.{ℕ, zero, suc, _+_, _-_, _≤_, _<_}
 use mathlib.Core.Path.{_≡_, refl, sym, ap, _∙_}
 use mathlib.Core.Bool.{Bool, true, false}
 use mathlib.Core.List.{List, [], _∷_, _++_}

@@ -1,8 +1,7 @@
 -- One symbol more, from every standing, by every symbol.
-use Prim.Native.Nat.{ℕ, _≤_}
+use Prim.Native.Nat.{_≤_}
 use mathlib.Core.Path.{_≡_, refl}
 use mathlib.Core.Bool.{true, false}
-use mathlib.Core.List.{[]}
 use lib.ListN.{length}
 use Rattle.symbol.specs.declared.Symbol.{Symbol}
 use Rattle.symbol.specs.declared.Symbol.the-variants.{Noise as NoiseWidth, Bit0, Bit1, Eod, Sof as SofWidth, Eof, Ifs, Break as BreakWidth, Stuck as StuckWidth}

@@ -12,7 +12,6 @@ use Rattle.framing.specs.Faults.{mostBytes}
 use Rattle.machine.specs.declared.Phase.{Phase}
 use Rattle.machine.specs.declared.Phase.the-variants.{Sof, Main, Normalization, Plain, Checked}
 use Rattle.machine.specs.declared.Machine.{Machine}
-use Rattle.machine.specs.declared.Event.{Event}
 use Rattle.machine.specs.declared.Event.the-variants.{Going, Byte, Closed, Faulty}
 use Rattle.machine.specs.declared.Stepped.{Stepped}
 use Rattle.machine.specs.declared.Asked.{Asked}

@@ -1,5 +1,4 @@
 -- `frame::lay` meets its contract: the bytes kept are copied, as many as are counted.
-use Prim.Native.Nat.{_≤_}
 use denote.Ref.{now}
 use mathlib.Core.Path.{_≡_, sym, _∙_}
 use native.Mathlib.Omega.{arith}

@@ -1,7 +1,7 @@
 -- `frame::opening` meets its contract. The loop stands at an even place, and the opening from there on is the one asked for.
 -- The measure is what is left of the recording.
 use Prim.Native.Nat.{_+_, _-_, _%_, _≤_}
-use mathlib.Core.Path.{_≡_, refl, sym, ap, _∙_}
+use mathlib.Core.Path.{_≡_, sym, ap, _∙_}
 use native.Mathlib.Omega.{arith}
 use lib.ListN.{length}
 use Rattle.framing.specs.Line.{opening}

@@ -1,6 +1,5 @@
 -- `machine::too_few` meets its contract.
 use Rattle.machine.proofs.Exits.{few-short, few-by}
-use borrow.Author.Needs.{needs}
 use Rattle.machine.proofs.too_few.Statement.{statement}
 use Rattle.machine.proofs.too_few.Tie as tie
 
