@@ -8,7 +8,7 @@ const POLYNOMIAL: u8 = 0x1D;
 
 pub const ALL_ONES: u8 = 0xFF;
 
-const RESIDUE: u8 = 0xC4;
+pub const RESIDUE: u8 = 0xC4;
 
 // One bit of the register.
 fn shifted(register: u8) -> u8

@@ -1,2 +1,5 @@
+mod Exits
+mod Searching
+mod Answers
 pub mod Words
 pub mod Writes

@@ -1,0 +1,46 @@
+-- What the machine holds before an interval: all of it is read off where the interval stands in document 01's sense.
+use Prim.Native.Nat.{ℕ, _+_}
+use mathlib.Core.Path.{_≡_}
+use mathlib.Core.Bool.{Bool}
+use mathlib.Core.List.{List, [], _∷_, _++_}
+use lib.ListN.{length, take}
+use Rattle.checkbyte.specs.Register.{registerOf}
+use Rattle.framing.specs.Bits.{bytes}
+use Rattle.framing.specs.BitLaws.{leftOver, behind}
+use Rattle.framing.specs.Standing.{Kind, plain, checked, Standing, atSof, inMain, atNormalization, inResponse}
+use Rattle.framing.specs.Faults.{mostBytes, facts, mainBytes, responseBytes}
+use Rattle.frame.specs.declared.machine.Phase.{Phase}
+use Rattle.frame.specs.declared.machine.Phase.the-variants.{Sof, Main, Normalization, Plain, Checked}
+use Rattle.frame.specs.declared.machine.Machine.{Machine}
+
+-- the phase of each standing
+abbrev pub phaseOf : Standing → Phase
+phaseOf atSof = Sof
+phaseOf (inMain m) = Main
+phaseOf (atNormalization m) = Normalization
+phaseOf (inResponse plain m r) = Plain
+phaseOf (inResponse checked m r) = Checked
+
+-- the bytes that stand before the part
+abbrev pub earlier : Standing → List ℕ
+earlier atSof = []
+earlier (inMain m) = []
+earlier (atNormalization m) = bytes m
+earlier (inResponse k m r) = bytes m
+
+-- all bytes so far: the main part's, then the response's
+abbrev pub soFar : Standing → List ℕ
+soFar st = mainBytes st ++ responseBytes st
+
+-- what is held in a phase, with the bits of the part, the bytes before it, and all bytes so far
+abbrev pub holdingBy : Phase → List Bool → List ℕ → List ℕ → Machine
+holdingBy phase part before all =
+    record { phase = phase; partial = behind 1 (leftOver part); count = length all; began = length before; register = registerOf (bytes part) }
+
+unfoldable pub holding : Standing → Machine
+holding st = holdingBy (phaseOf st) (facts st .part) (earlier st) (soFar st)
+
+-- The bytes that are kept aside for the frame: twelve, and the bytes so far stand first.
+pub record Kept (st : Standing) (kept : List ℕ) : Type 0 where
+  pub room : length kept ≡ mostBytes
+  pub first : take (length (soFar st)) kept ≡ soFar st
