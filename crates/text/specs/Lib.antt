@@ -5,3 +5,4 @@ pub mod Report
 pub mod PieceLaws
 pub mod GoodLines
 pub mod Enough
+pub mod Calls
