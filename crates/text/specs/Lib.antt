@@ -6,3 +6,7 @@ pub mod PieceLaws
 pub mod GoodLines
 pub mod Enough
 pub mod Calls
+pub mod AnswerLaws
+pub mod NumeralLaws
+pub mod Bounds
+pub mod Whole
