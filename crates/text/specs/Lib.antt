@@ -10,3 +10,4 @@ pub mod AnswerLaws
 pub mod NumeralLaws
 pub mod Bounds
 pub mod Whole
+pub mod LabelPlaces
