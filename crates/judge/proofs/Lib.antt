@@ -1,0 +1,4 @@
+pub mod Leaves
+pub mod Fields
+pub mod Driving
+pub mod Exits

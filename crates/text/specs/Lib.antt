@@ -1,0 +1,13 @@
+pub mod Grammar
+pub mod Input
+pub mod Numerals
+pub mod Report
+pub mod PieceLaws
+pub mod GoodLines
+pub mod Enough
+pub mod Calls
+pub mod AnswerLaws
+pub mod NumeralLaws
+pub mod Bounds
+pub mod Whole
+pub mod LabelPlaces

@@ -1,0 +1,25 @@
+// The desk's text: the types that callers see. What the text is for every input, and what the calls promise, is defined in
+// specs/, in document 01's words; the code that works it out stands in the rooms above.
+
+// How many bytes each label of a good input has. The customer's stands behind `own` and a tab, the vehicle's behind it and
+// another tab.
+pub struct Labels {
+    pub customer: usize,
+    pub vehicle: usize,
+}
+
+// What judging an input answers: its labels and the number of its widths, which then stand first in the lent words; or the
+// number of its first bad line; or a refusal, which changes nothing.
+pub enum Judged {
+    Good { labels: Labels, widths: usize },
+    Bad { line: usize },
+    FewLentWords,
+}
+
+// What the desk answers: how many bytes of text stand first in the lent bytes, and, where that text is a refusal of the input,
+// the number of its first bad line. FewLent is a refusal of the call, and changes nothing.
+pub enum Answered {
+    Report { length: usize },
+    Refused { line: usize, length: usize },
+    FewLent,
+}
