@@ -34,7 +34,7 @@ KeepAll (e ∷ entries) = Keeps e × KeepAll entries
 abbrev pub goesOut : List Entry → Bits
 goesOut entries = firstAt (map seatOf entries)
 
-all-fair : (entries : List Entry) → KeepAll entries → FairAll false (map seatOf entries)
+pub all-fair : (entries : List Entry) → KeepAll entries → FairAll false (map seatOf entries)
 all-fair [] h = tt
 all-fair (absent ∷ entries) h = (tt, all-fair entries (h .1))
 all-fair (enters sof pulses ∷ entries) h = (h .0 .1, all-fair entries (h .1))

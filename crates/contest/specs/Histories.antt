@@ -1,8 +1,10 @@
 -- Histories of calls on a row, and what demand 3 counts in them. "Demand 3 speaks of a row changed only by these calls, each
 -- lent the whole of it, and counts rounds from the loading."
 use Prim.Native.Nat.{ℕ, _+_}
+use mathlib.Core.Path.{_≡_}
 use mathlib.Core.Bool.{Bool, true, false, cond, not, _&&_, _||_}
 use mathlib.Core.List.{List, [], _∷_, map}
+use lib.Dec.{eqb}
 use Rattle.contest.specs.declared.Station.{Station}
 use Rattle.contest.specs.Stations.{Bits, bitsSent, waitingAt}
 use Rattle.contest.specs.Order.{ahead, sameBits}
@@ -56,3 +58,29 @@ roundsIn (c ∷ calls) row = counted c row (asRound c) + roundsIn calls (after c
 unfoldable pub loadsAhead : Bits → List Call → List Station → ℕ
 loadsAhead m [] row = 0
 loadsAhead m (c ∷ calls) row = counted c row (asLoadAhead m c) + loadsAhead m calls (after c row)
+
+-- ## What disturbs a wait
+
+-- the call is an accepted loading or withdrawal
+abbrev pub disturbs : Call → List Station → Bool
+disturbs (load i m) row = taken (load i m) row
+disturbs (withdraw i) row = taken (withdraw i) row
+disturbs (setClock i c) row = false
+disturbs (round lent) row = false
+
+-- "with no loading or withdrawal": none that is not turned away
+abbrev pub Undisturbed : List Call → List Station → Type 0
+Undisturbed [] row = Unit {0}
+Undisturbed (c ∷ calls) row = (disturbs c row ≡ false) × Undisturbed calls (after c row)
+
+-- the call is an accepted withdrawal from place s
+abbrev pub takesBack : ℕ → Call → List Station → Bool
+takesBack s (load i m) row = false
+takesBack s (withdraw i) row = eqb s i && taken (withdraw i) row
+takesBack s (setClock i c) row = false
+takesBack s (round lent) row = false
+
+-- nothing is withdrawn from place s
+abbrev pub NotWithdrawn : ℕ → List Call → List Station → Type 0
+NotWithdrawn s [] row = Unit {0}
+NotWithdrawn s (c ∷ calls) row = (takesBack s c row ≡ false) × NotWithdrawn s calls (after c row)

@@ -37,7 +37,7 @@ unfolding behind
 behind-more n [] b = refl
 behind-more n (x ∷ bits) b = behind-more (n * 2 + value x) bits b
 
-value-small : (b : Bool) → value b ≤ 1
+pub value-small : (b : Bool) → value b ≤ 1
 value-small true = omega arith
 value-small false = omega arith
 
