@@ -1,0 +1,5 @@
+pub mod Scan
+pub mod Lanes
+pub mod LoopLaws
+pub mod Seats
+pub mod SeatLaws
