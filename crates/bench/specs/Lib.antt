@@ -3,3 +3,6 @@ pub mod Lanes
 pub mod LoopLaws
 pub mod Seats
 pub mod SeatLaws
+pub mod Sending
+pub mod Entries
+pub mod EntryLaws

@@ -38,9 +38,9 @@ enum Ask {
 }
 
 // What all places together ask of the line: whether anybody asks, and how long the bit lasts.
-struct Asked {
-    some: bool,
-    width: u32,
+pub struct Asked {
+    pub some: bool,
+    pub width: u32,
 }
 
 // The bit at place j of the bytes that are sent, the high bit of a byte first.
