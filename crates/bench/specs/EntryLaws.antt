@@ -18,14 +18,9 @@ use Rattle.contest.specs.Round.{longest}
 use Rattle.contest.specs.Contest.{absent, holder, entryOf, sofAsks, sofsAsked, verdictOf}
 use Rattle.contest.specs.Calls.{allSound, allEmpty}
 use Rattle.bench.specs.declared.entries.Survey.{Survey}
-use Rattle.bench.specs.Scan.{from, map-from, from-list, fold-start, fold-more, fold-all, filled, fill-start, fill-more, fill-all}
+use Rattle.bench.specs.Scan.{from, map-from, from-list, getD-any, fold-start, fold-more, fold-all, filled, fill-start, fill-more, fill-all}
 use Rattle.bench.specs.Seats.{faredIn, faresAt}
 use Rattle.bench.specs.Entries.{countOf, frameOf, surveyBy, surveyOf, verdictsAt}
-
-getD-any : {A : Type 0} (l : List A) (i : ℕ) (d e : A) → i < length l → getD l i d ≡ getD l i e
-getD-any [] i d e h = absurd (omega arith)
-getD-any (x ∷ l) zero d e h = refl
-getD-any (x ∷ l) (suc i) d e h = getD-any l i d e (omega arith)
 
 -- ## An array that has something of each station
 

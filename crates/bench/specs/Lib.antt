@@ -6,3 +6,6 @@ pub mod SeatLaws
 pub mod Sending
 pub mod Entries
 pub mod EntryLaws
+pub mod Benches
+pub mod Changes
+pub mod ChangeLaws

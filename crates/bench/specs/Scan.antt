@@ -52,6 +52,12 @@ from-list {A} {B} f l d = go [] l
         snoc [] x b = refl
         snoc (y ∷ a) x b = ap (λ (r : List A). y ∷ r) (snoc a x b)
 
+-- What stands past the end does not matter before it.
+pub getD-any : {A : Type 0} (l : List A) (i : ℕ) (d e : A) → i < length l → getD l i d ≡ getD l i e
+getD-any [] i d e h = absurd (omega arith)
+getD-any (x ∷ l) zero d e h = refl
+getD-any (x ∷ l) (suc i) d e h = getD-any l i d e (omega arith)
+
 -- ## A fold, from the end
 
 -- f of a list, made from its end by g
