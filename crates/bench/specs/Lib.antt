@@ -9,3 +9,7 @@ pub mod EntryLaws
 pub mod Benches
 pub mod Changes
 pub mod ChangeLaws
+pub mod Rounds
+pub mod Starting
+pub mod Playing
+pub mod RoundOutcomes

@@ -4,4 +4,5 @@ mod calls;
 mod entries;
 mod lanes;
 mod line;
+mod round;
 mod rows;
