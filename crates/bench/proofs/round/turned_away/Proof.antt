@@ -1,0 +1,13 @@
+-- `bench::turned_away` meets its contract.
+use mathlib.Core.Path.{refl}
+use Rattle.bench.specs.Rounds.{idleAll}
+use borrow.Author.Needs.{needs}
+use Rattle.bench.proofs.round.turned_away.Statement.{statement}
+use Rattle.bench.proofs.round.turned_away.Tie as tie
+
+returns : tie.Need-returns
+unfolding idleAll
+returns c = refl
+
+pub turned-away-spec : {M : Type 1} → statement M
+turned-away-spec = tie.close (tie.spec returns)

@@ -1,0 +1,8 @@
+// The contest bench: the calls on a lent row of stations, worked out. What each of them answers and leaves behind is
+// defined in the room below, in document 01's words.
+mod calls;
+mod entries;
+mod lanes;
+mod line;
+mod round;
+mod rows;
