@@ -12,3 +12,4 @@ pub mod Bounds
 pub mod Whole
 pub mod LabelPlaces
 pub mod CallLaws
+pub mod Labelled
