@@ -11,3 +11,5 @@ pub mod NumeralLaws
 pub mod Bounds
 pub mod Whole
 pub mod LabelPlaces
+pub mod CallLaws
+pub mod Labelled

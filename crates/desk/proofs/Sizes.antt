@@ -1,0 +1,41 @@
+-- The text that the desk tells of fits the page that it is lent, and the bytes that were read fit the buffer.
+use Prim.Native.Nat.{ℕ, _≤_}
+use mathlib.Core.Path.{_≡_, ap, _∙_}
+use mathlib.Core.Bool.{Bool, true, false, cond}
+use mathlib.Core.List.{List}
+use native.Mathlib.Omega.{arith}
+use lib.Dec.{eqb}
+use lib.ListN.{length}
+use Rattle.io.specs.Counts.{Counts}
+use Rattle.desk.specs.declared.Filled.{Filled}
+use Rattle.desk.specs.declared.Filled.the-variants.{Bytes}
+use Rattle.desk.specs.Filling.{Within}
+use Rattle.text.specs.declared.Answered.{Answered}
+use Rattle.text.specs.declared.Answered.the-variants.{Report, Refused}
+use Rattle.text.specs.Input.{lines, firstBad}
+use Rattle.text.specs.Report.{deskOf}
+use Rattle.text.specs.Calls.{mostText, Told, Page, reported, turnedDown, short, pageBy, lentShort, answering, answeredTold, pageTells, DeskPromise}
+use Rattle.text.specs.Whole.{desk-size}
+
+page-size : (s : List ℕ) (words bytes : ℕ) → pageTells (answering s words bytes) .length ≤ mostText
+unfolding answering
+page-size s words bytes = go (lentShort words bytes) (eqb (firstBad (lines s)) 0)
+  where
+    go : (b c : Bool) → pageTells (cond b short (cond c (reported (length (deskOf s))) (turnedDown (firstBad (lines s)) (length (deskOf s))))) .length ≤ mostText
+    go true c = omega arith
+    go false true = desk-size s
+    go false false = desk-size s
+
+module _ {s words left entry exit : List ℕ} {r : Answered} (q : DeskPromise s words left entry exit r) where
+  told-size : answeredTold r .length ≤ mostText
+  told-size = omega (arith, ap (λ (t : Told). t .length) (q .tells-it), page-size s (length words) (length entry))
+
+  pub report-fits : {n : ℕ} → r ≡ Report n → n ≤ mostText
+  report-fits e = rw e at told-size
+
+  pub refusal-fits : {k n : ℕ} → r ≡ Refused k n → n ≤ mostText
+  refusal-fits e = rw e at told-size
+
+-- The bytes that were read stand in the buffer.
+pub filled-counts : {f : Filled} {n : ℕ} (buf : List ℕ) → f ≡ Bytes n → Within f buf → Counts n buf
+filled-counts buf e h = rw e at h

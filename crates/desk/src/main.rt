@@ -1,0 +1,136 @@
+// The desk: reads a recording's text and writes what the recording holds. What it writes for every input is defined in the
+// room `text`; here a file or standard input is read, and the text is written.
+mod help;
+
+ghost use mathlib.Core.Path.{_≡_};
+ghost use Prim.Native.Nat.{_≤_};
+ghost use lib.ListN.{length};
+ghost use Rattle.desk.specs.Filling.{Within};
+use libc::STDERR_FILENO;
+use libc::STDIN_FILENO;
+use libc::STDOUT_FILENO;
+use text::Answered;
+
+// One byte more than the longest good input has, so that an input that is too long is seen to be. What follows it changes
+// nothing, and is not read.
+const ENOUGH: usize = 229415;
+
+// What the desk asks for: a word for each width, and bytes for the longest text.
+const WORDS: usize = 16384;
+
+const PAGE: usize = 442463;
+
+fn room() -> [u8; ENOUGH]
+    ensures { λ r. ⌜ 229415 ≡ length r ⌝ }
+{
+    [0u8; ENOUGH]
+}
+
+fn words() -> [u32; WORDS]
+    ensures { λ r. ⌜ 16384 ≡ length r ⌝ }
+{
+    [0u32; WORDS]
+}
+
+fn page() -> [u8; PAGE]
+    ensures { λ r. ⌜ 442463 ≡ length r ⌝ }
+{
+    [0u8; PAGE]
+}
+
+// How many bytes were read, or that reading failed.
+enum Filled {
+    Bytes(usize),
+    Failed,
+}
+
+// Reads until the buffer is full or the input ends.
+fn fill(fd: i32, buf: &mut [u8]) -> Filled
+    ensures { λ r. ⌜ Within r (now (buf .exit)) ⌝ }
+{
+    let mut done = 0;
+    while done < buf.len() {
+        let got = libc::read(fd, &mut buf[done..]);
+        if got < 0 {
+            return Filled::Failed;
+        }
+        let n = io::count(got, &buf[done..]);
+        if n == 0 {
+            return Filled::Bytes(done);
+        }
+        done += n;
+    }
+    Filled::Bytes(done)
+}
+
+// Writes the text of an input.
+fn answer(input: &[u8]) {
+    let mut ws = words();
+    let mut out = page();
+    let answered = report::desk(input, &mut ws, &mut out);
+    match answered {
+        Answered::Report { length } => {
+            io::write_all(STDOUT_FILENO, &out[..length]);
+        }
+        Answered::Refused { line: _, length } => {
+            io::write_all(STDOUT_FILENO, &out[..length]);
+        }
+        Answered::FewLent => {}
+    }
+}
+
+// Answers what a descriptor gives; a failure is told with the name.
+fn serve(fd: i32, name: &[u8]) {
+    let mut buf = room();
+    let filled = fill(fd, &mut buf);
+    match filled {
+        Filled::Bytes(n) => answer(&buf[..n]),
+        Filled::Failed => os::fail(name),
+    }
+}
+
+// Answers a file.
+fn serve_file(name: &[u8]) {
+    let fd = os::open_read(name);
+    if fd < 0 {
+        os::fail(name);
+        return;
+    }
+    serve(fd, name);
+    libc::close(fd);
+}
+
+// The one argument: `-`, `--help` or a name.
+fn serve_named(name: &[u8]) {
+    if help::same(name, b"-") {
+        serve(STDIN_FILENO, b"standard input");
+        return;
+    }
+    if help::same(name, b"--help") {
+        help::print();
+        return;
+    }
+    serve_file(name);
+}
+
+fn main() {
+    let count = os::arg_count();
+    if count > 2 {
+        io::write_all(
+            STDERR_FILENO,
+            b"desk: one file at most; desk --help says more\n",
+        );
+        return;
+    }
+    if count < 2 {
+        serve(STDIN_FILENO, b"standard input");
+        return;
+    }
+    let mut name = io::buffer();
+    let n = os::arg(1, &mut name);
+    if os::errno() != 0 {
+        os::fail(b"desk: the argument");
+        return;
+    }
+    serve_named(&name[..n]);
+}
