@@ -22,7 +22,7 @@ use Rattle.contest.specs.Promises.{calledNumber, LoadPromise, WithdrawPromise, 
 use Rattle.contest.specs.RowLaws.{winnerOf, faresAgainst, row-fares}
 use Rattle.bench.specs.declared.rows.Bench.{Bench}
 use Rattle.bench.specs.declared.calls.Changed.{Changed}
-use Rattle.bench.specs.declared.round.Played.{Played}
+use Rattle.bench.specs.declared.playing.Played.{Played}
 use Rattle.bench.specs.Benches.{withOf, benchOf}
 use Rattle.bench.specs.Changes.{stationOf, ChangedBy, rowNumber, andThen, loadRules, loadNumber, loadedBench, withdrawRules, withdrawNumber, withdrawnBench, clockRules, clockNumber, clockedBench}
 use Rattle.bench.specs.Rounds.{roundNumber, numberOn, PlayedBy}

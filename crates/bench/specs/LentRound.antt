@@ -20,7 +20,7 @@ use Rattle.contest.specs.Calls.{round, rowSize, allSound, unsoundStation, allEm
 use Rattle.contest.specs.Promises.{RoundSaid, RoundPromise, said, played, turnedAway, roundSays}
 use Rattle.contest.specs.RowLaws.{winnerOf, faresAgainst, row-fares}
 use Rattle.bench.specs.declared.rows.Bench.{Bench}
-use Rattle.bench.specs.declared.round.Played.{Played}
+use Rattle.bench.specs.declared.playing.Played.{Played}
 use Rattle.bench.specs.Benches.{benchOf}
 use Rattle.bench.specs.Rounds.{roundNumber, numberOn, PlayedBy}
 use Rattle.bench.specs.Padding.{map-append, map-replicate, round-pad, after-pad}
