@@ -13,3 +13,7 @@ pub mod Rounds
 pub mod Starting
 pub mod Playing
 pub mod RoundOutcomes
+pub mod Padding
+pub mod Restoring
+pub mod Lent
+pub mod LentRound

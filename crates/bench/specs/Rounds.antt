@@ -17,7 +17,7 @@ use Rattle.contest.specs.Calls.{refuse, written}
 use Rattle.contest.specs.Promises.{said, played, turnedAway}
 use Rattle.bench.specs.declared.rows.Bench.{Bench}
 use Rattle.bench.specs.declared.entries.Survey.{Survey}
-use Rattle.bench.specs.declared.round.Played.{Played}
+use Rattle.bench.specs.declared.playing.Played.{Played}
 use Rattle.bench.specs.Scan.{from}
 use Rattle.bench.specs.Entries.{surveyOf}
 

@@ -4,5 +4,11 @@ mod calls;
 mod entries;
 mod lanes;
 mod line;
-mod round;
+mod playing;
 mod rows;
+mod row;
+
+pub use row::load;
+pub use row::round;
+pub use row::set_clock;
+pub use row::withdraw;

@@ -3,8 +3,8 @@ use mathlib.Core.Path.{sym, _∙_}
 use borrow.Author.Tests.{not-true, not-false, lt-ltb, le-ltb}
 use Rattle.bench.specs.Rounds.{roundNumber}
 use borrow.Author.Needs.{needs}
-use Rattle.bench.proofs.round.round_told.Statement.{statement}
-use Rattle.bench.proofs.round.round_told.Tie as tie
+use Rattle.bench.proofs.playing.round_told.Statement.{statement}
+use Rattle.bench.proofs.playing.round_told.Tie as tie
 
 bad-size-requires : tie.Need-bad-size-requires
 bad-size-requires c κs = search needs

@@ -2,8 +2,8 @@
 use mathlib.Core.Path.{refl}
 use Rattle.bench.specs.Rounds.{idleAll}
 use borrow.Author.Needs.{needs}
-use Rattle.bench.proofs.round.turned_away.Statement.{statement}
-use Rattle.bench.proofs.round.turned_away.Tie as tie
+use Rattle.bench.proofs.playing.turned_away.Statement.{statement}
+use Rattle.bench.proofs.playing.turned_away.Tie as tie
 
 returns : tie.Need-returns
 unfolding idleAll

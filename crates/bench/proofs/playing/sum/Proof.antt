@@ -6,8 +6,8 @@ use lib.ListN.{take, drop}
 use Rattle.contest.specs.Contest.{sumOf}
 use Rattle.bench.specs.Playing.{sum-start, sum-more, sum-fits, sum-all}
 use borrow.Author.Needs.{needs}
-use Rattle.bench.proofs.round.sum.Statement.{statement}
-use Rattle.bench.proofs.round.sum.Tie as tie
+use Rattle.bench.proofs.playing.sum.Statement.{statement}
+use Rattle.bench.proofs.playing.sum.Tie as tie
 
 abbrev Inv-loop : tie.InvT-loop
 Inv-loop words n all₀ i₀ all i = (i ≤ n) × (all ≡ sumOf (drop i (take n words)))

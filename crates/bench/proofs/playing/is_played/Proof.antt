@@ -9,8 +9,8 @@ use Rattle.contest.specs.declared.RoundTold.{RoundTold}
 use Rattle.contest.specs.Promises.{toldNumber}
 use Rattle.contest.proofs.RoundTold.{the-type}
 use borrow.Author.Needs.{needs}
-use Rattle.bench.proofs.round.is_played.Statement.{statement}
-use Rattle.bench.proofs.round.is_played.Tie as tie
+use Rattle.bench.proofs.playing.is_played.Statement.{statement}
+use Rattle.bench.proofs.playing.is_played.Tie as tie
 
 -- every refusal has a number of its own
 other : (x : RoundTold) → OneOf (1 ∷ 2 ∷ 3 ∷ 4 ∷ []) (tagOf the-type x) → false ≡ eqb (toldNumber x) 0

@@ -1,7 +1,7 @@
 -- `bench::after_verdict` meets its contract: a way out for each verdict.
 use borrow.Author.Needs.{needs}
-use Rattle.bench.proofs.round.after_verdict.Statement.{statement}
-use Rattle.bench.proofs.round.after_verdict.Tie as tie
+use Rattle.bench.proofs.playing.after_verdict.Statement.{statement}
+use Rattle.bench.proofs.playing.after_verdict.Tie as tie
 
 enum-told : tie.Need-enum-told
 enum-told c = search needs

@@ -3,8 +3,8 @@ use Prim.Native.Nat.{_-_}
 use Rattle.bench.specs.Scan.{fill-start}
 use Rattle.bench.specs.Playing.{Settling, settle-more, settle-all}
 use borrow.Author.Needs.{needs}
-use Rattle.bench.proofs.round.after_round.Statement.{statement}
-use Rattle.bench.proofs.round.after_round.Tie as tie
+use Rattle.bench.proofs.playing.after_round.Statement.{statement}
+use Rattle.bench.proofs.playing.after_round.Tie as tie
 
 abbrev Inv-loop : tie.InvT-loop
 Inv-loop at verdicts next₀ i₀ next i = Settling at verdicts next₀ next i

@@ -2,8 +2,8 @@
 use Rattle.bench.specs.RoundOutcomes.{may-play, plays, turns-away}
 use Rattle.bench.proofs.Whole.{full}
 use borrow.Author.Needs.{needs}
-use Rattle.bench.proofs.round.round_on.Statement.{statement}
-use Rattle.bench.proofs.round.round_on.Tie as tie
+use Rattle.bench.proofs.playing.round_on.Statement.{statement}
+use Rattle.bench.proofs.playing.round_on.Tie as tie
 
 survey-all-requires : tie.Need-survey-all-requires
 survey-all-requires c κs = search needs

@@ -7,8 +7,8 @@ use lib.ListN.{length-set}
 use Rattle.bench.specs.Entries.{verdictsAt}
 use Rattle.bench.specs.Playing.{words-are, mid-length, time-bound, answer-is}
 use borrow.Author.Needs.{needs}
-use Rattle.bench.proofs.round.play.Statement.{statement}
-use Rattle.bench.proofs.round.play.Tie as tie
+use Rattle.bench.proofs.playing.play.Statement.{statement}
+use Rattle.bench.proofs.playing.play.Tie as tie
 
 slice-write-words : tie.Need-slice-write-words
 slice-write-words c = search needs

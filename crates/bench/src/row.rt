@@ -1,0 +1,81 @@
+// The calls on a lent row of stations, as document 01 names them. Each gathers the row into a bench, works on the bench by
+// value, and puts it back.
+ghost use mathlib.Core.Path.{_≡_};
+ghost use Rattle.contest.specs.Promises.{LoadPromise, WithdrawPromise, ClockPromise, RoundPromise};
+ghost use Rattle.bench.specs.Benches.{benchOf};
+ghost use Rattle.bench.specs.Restoring.{putBack};
+use crate::calls;
+use crate::playing;
+use crate::rows;
+use crate::rows::Bench;
+use contest::Called;
+use contest::RoundAnswer;
+use contest::Station;
+use symbol::Clock;
+
+// The bench of a row.
+pub fn gathered(row: &[Station]) -> Bench
+    ensures { λ r. ⌜ r ≡ benchOf (now (row .entry)) ⌝ }
+{
+    let mut bench = rows::blank_bench(row.len());
+    let mut i = 0;
+    while i < row.len() {
+        let station = row[i];
+        bench = rows::with(bench, i, station);
+        i += 1;
+    }
+    bench
+}
+
+// The row with the stations of a bench in its places.
+pub fn put_back(row: &mut [Station], bench: Bench)
+    ensures { λ _. ⌜ now (row .exit) ≡ putBack bench (now (row .entry)) ⌝ }
+{
+    let mut i = 0;
+    while i < row.len() {
+        let station = row[i];
+        let next = rows::station_at(bench, i, station);
+        row[i] = next;
+        i += 1;
+    }
+}
+
+// Loads a message into the station at a place, from 0 on. A refusal changes nothing.
+pub fn load(row: &mut [Station], place: usize, message: &[u8]) -> Called
+    ensures { λ r. ⌜ LoadPromise place (now (message .entry)) (now (row .entry)) (now (row .exit)) r ⌝ }
+{
+    let bench = gathered(row);
+    let changed = calls::load_on(bench, place, message);
+    put_back(row, changed.bench);
+    changed.called
+}
+
+// Withdraws the message of the station at a place.
+pub fn withdraw(row: &mut [Station], place: usize) -> Called
+    ensures { λ r. ⌜ WithdrawPromise place (now (row .entry)) (now (row .exit)) r ⌝ }
+{
+    let bench = gathered(row);
+    let changed = calls::withdraw_on(bench, place);
+    put_back(row, changed.bench);
+    changed.called
+}
+
+// Sets the clock of the station at a place.
+pub fn set_clock(row: &mut [Station], place: usize, clock: Clock) -> Called
+    ensures { λ r. ⌜ ClockPromise place clock (now (row .entry)) (now (row .exit)) r ⌝ }
+{
+    let bench = gathered(row);
+    let changed = calls::set_clock_on(bench, place, clock);
+    put_back(row, changed.bench);
+    changed.called
+}
+
+// Plays a round and writes its words into those lent.
+pub fn round(row: &mut [Station], words: &mut [u32]) -> RoundAnswer
+    ensures { λ r. ⌜ RoundPromise (now (row .entry)) (now (row .exit)) (now (words .entry)) (now (words .exit)) r ⌝ }
+{
+    let bench = gathered(row);
+    let played = playing::round_on(bench, words);
+    put_back(row, played.bench);
+    played.answer
+}
