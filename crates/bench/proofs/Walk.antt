@@ -2,11 +2,12 @@
 --     Locals E os      the cells of a function's locals, local 0 first: each holds a value, or is room
 --     allocs-all       the locals are allocated, and stand in the order of the source
 --     frees-all        they are freed, whatever they hold
---     calls-plain      a call of a function of plain data whose contract says which value it answers
---     calls-told       the same of a function that is lent something, and gives something back for it
+--     calls-known      a call of a function of plain data, whose contract says something of what it answers
+--     calls-plain      the same where the contract says which value it answers
+--     calls-told       a call of a function that is lent something, and gives something back for it
 --     tests            the test at the head of a `while`: the turn goes on, or leaves the loop
 -- Assumes `Given`.
-use mathlib.Core.Path.{_≡_, refl, ap, subst}
+use mathlib.Core.Path.{_≡_, refl, sym, ap, subst}
 use mathlib.Core.Bool.{Bool, not}
 use mathlib.Core.Option.{Option, none, some as full}
 use Prim.Native.Nat.{ℕ, zero, suc, _+_, _<_, _*_, _^_}
@@ -23,7 +24,7 @@ use prog.Wp.{Heap, Env, Calls, Loops, exits}
 use ghost.Atoms.{Atoms}
 use contract.Monad.{fact}
 use sound.WpLaws.{FmC}
-use types.Kit.{Given, Item, ‵, raw, _⊛_, some, later, mean, ⋆, push, pop, Goal, Post, post, prop, runs, lands, allocs, frees, Seq, Sq, Step, step, _$_, !, done, move, drop, use0, use1, split, pick, rewrite, regoal, await}
+use types.Kit.{Given, Item, ‵, raw, _⊛_, some, later, mean, ⋆, push, pop, Goal, Post, post, prop, runs, lands, allocs, frees, Seq, Sq, Step, step, _$_, !, done, move, drop, use0, use1, split, pick, regoal, await}
 use types.Run.{Opd, Opds, first, branches, skips, jumps, forget, alloc1, alloc0, free1, free0}
 use denote.RattleType.{RattleType}
 use denote.Laws.{Is, Tells, shows}
@@ -80,36 +81,44 @@ module _ {M : Type 1} {𝓤 : URA M} {H : Heap 𝓤} {A : Atoms 𝓤} {K : Type 
   frees-all t (e ∷ E) (none ∷ os) = step (λ s. free1 t $ frees-all t E os $ s)
   frees-all t (e ∷ E) (full v ∷ os) = step (λ s. forget t 0 refl $ free1 t $ frees-all t E os $ s)
 
-module _ {M : Type 1} {𝓤 : URA M} {H : Heap 𝓤} {A : Atoms 𝓤} {K : Type 0} {W : Given 𝓤 H A} {Γ : List (Item 𝓤)} {C : Calls 𝓤 H} {Λ : Loops 𝓤 H} {E : Env 𝓤 H} {q : Post 𝓤 H} where
-  -- a call of a function of plain data, which answers g
-  pub calls-plain : K → FmC 𝓤 H (W .laws) C → {f : Name} {xs : List Operand} {d : Place} {rest : Body} (c : Contract 𝓤) → Triple 𝓤 (C f) c → (x : c .Ghost) → ent 𝓤 (emp 𝓤) (c .pre x)
-      → (R : RattleType) (val : R .Denot → Val) → Tells R (Is R) (λ y. val y ∷ []) → (g : R .Denot) (Ens : R .Denot → SProp 𝓤)
-      → ((v : Val) → ent 𝓤 (c .post x v) (mean 𝓤 H A (later (some (λ (r : R .Denot). (‵ ftrue ⊛ ‵ (R .own r (v ∷ []))) ⊛ raw (Ens r))))))
-      → ((r : R .Denot) → ent 𝓤 (Ens r) (fact 𝓤 (r ≡ g)))
-      → Opds K W (raw (c .pre x) ∷ Γ) E xs (c .args x)
-      → (Is R g (val g ∷ []) → Seq K W Γ (lands C Λ E d (val g) rest q))
-      → Seq K W Γ (runs C Λ E (seq (call f xs d) rest) q)
-  calls-plain t fm {f} {xs} {d} {rest} c met x pre R val tl g Ens is-post told os k =
-      use0 W (raw (c .pre x)) pre $ calls-at t fm c met x os (λ v.
-      use1 W (later (some (λ (r : R .Denot). (‵ ftrue ⊛ ‵ (R .own r (v ∷ []))) ⊛ raw (Ens r)))) (is-post v) $ await t tt $ pick t (λ r.
-      split t $ move t (1 ∷ []) $ use1 W (raw (fact 𝓤 (r ≡ g))) (told r) $ heard t (r ≡ g) (λ e. split t $ drop t $
-      rewrite t 0 (λ (z : R .Denot). ‵ (R .own z (v ∷ []))) e refl $ facts t R (Is R) (shows 𝓤 H A R) g (v ∷ []) (λ is.
-      regoal t (λ (u : Val). lands C Λ E d u rest q) (ap only (tl g (v ∷ []) is)) refl $ k (subst (Is R g) (tl g (v ∷ []) is) is)))))
-
-  -- the same of a function that is lent something: i is what it is given, and j what it gives back
-  pub calls-told : K → FmC 𝓤 H (W .laws) C → {f : Name} {xs : List Operand} {d : Place} {rest : Body} (c : Contract 𝓤) → Triple 𝓤 (C f) c → (x : c .Ghost) {i : Item 𝓤} (j : Item 𝓤) → ent 𝓤 (mean 𝓤 H A i) (c .pre x)
-      → (R : RattleType) (val : R .Denot → Val) → Tells R (Is R) (λ y. val y ∷ []) → (g : R .Denot) (Ens : R .Denot → SProp 𝓤)
-      → ((v : Val) → ent 𝓤 (c .post x v) (mean 𝓤 H A (later (some (λ (r : R .Denot). (j ⊛ ‵ (R .own r (v ∷ []))) ⊛ raw (Ens r))))))
-      → ((r : R .Denot) → ent 𝓤 (Ens r) (fact 𝓤 (r ≡ g)))
-      → Opds K W (raw (c .pre x) ∷ Γ) E xs (c .args x)
-      → (Is R g (val g ∷ []) → Seq K W (j ∷ Γ) (lands C Λ E d (val g) rest q))
+-- Calls. The callee's contract says P of what it answers: Ens is its `ensures`, and told reads it.
+module _ {M : Type 1} {𝓤 : URA M} {H : Heap 𝓤} {A : Atoms 𝓤} {K : Type 0} {W : Given 𝓤 H A} {Γ : List (Item 𝓤)} {C : Calls 𝓤 H} {Λ : Loops 𝓤 H} {E : Env 𝓤 H} {q : Post 𝓤 H}
+    (t : K) (fm : FmC 𝓤 H (W .laws) C) {f : Name} {xs : List Operand} {d : Place} {rest : Body} (c : Contract 𝓤) (met : Triple 𝓤 (C f) c) (x : c .Ghost) where
+  -- a function that is lent something: i is what it is given, and j what it gives back
+  pub calls-told : {i : Item 𝓤} (j : Item 𝓤) → ent 𝓤 (mean 𝓤 H A i) (c .pre x) → (R : RattleType) (val : R .Denot → Val) → Tells R (Is R) (λ y. val y ∷ [])
+      → (P : R .Denot → Type 0) (Ens : R .Denot → SProp 𝓤) → ((v : Val) → ent 𝓤 (c .post x v) (mean 𝓤 H A (later (some (λ (r : R .Denot). (j ⊛ ‵ (R .own r (v ∷ []))) ⊛ raw (Ens r))))))
+      → ((r : R .Denot) → ent 𝓤 (Ens r) (fact 𝓤 (P r))) → Opds K W (raw (c .pre x) ∷ Γ) E xs (c .args x)
+      → ((r : R .Denot) → P r → Is R r (val r ∷ []) → Seq K W (j ∷ Γ) (lands C Λ E d (val r) rest q))
       → Seq K W (i ∷ Γ) (runs C Λ E (seq (call f xs d) rest) q)
-  calls-told t fm {f} {xs} {d} {rest} c met x j pre R val tl g Ens is-post told os k =
+  calls-told j pre R val tl P Ens is-post told os k =
       use1 W (raw (c .pre x)) pre $ calls-at t fm c met x os (λ v.
       use1 W (later (some (λ (r : R .Denot). (j ⊛ ‵ (R .own r (v ∷ []))) ⊛ raw (Ens r)))) (is-post v) $ await t tt $ pick t (λ r.
-      split t $ move t (1 ∷ []) $ use1 W (raw (fact 𝓤 (r ≡ g))) (told r) $ heard t (r ≡ g) (λ e. split t $ move t (1 ∷ []) $
-      rewrite t 0 (λ (z : R .Denot). ‵ (R .own z (v ∷ []))) e refl $ facts t R (Is R) (shows 𝓤 H A R) g (v ∷ []) (λ is.
-      regoal t (λ (u : Val). lands C Λ E d u rest q) (ap only (tl g (v ∷ []) is)) refl $ k (subst (Is R g) (tl g (v ∷ []) is) is)))))
+      split t $ move t (1 ∷ []) $ use1 W (raw (fact 𝓤 (P r))) (told r) $ heard t (P r) (λ e. split t $ move t (1 ∷ []) $
+      facts t R (Is R) (shows 𝓤 H A R) r (v ∷ []) (λ is.
+      regoal t (λ (u : Val). lands C Λ E d u rest q) (ap only (tl r (v ∷ []) is)) refl $ k r e (subst (Is R r) (tl r (v ∷ []) is) is)))))
+
+  -- a function of plain data
+  pub calls-known : ent 𝓤 (emp 𝓤) (c .pre x) → (R : RattleType) (val : R .Denot → Val) → Tells R (Is R) (λ y. val y ∷ [])
+      → (P : R .Denot → Type 0) (Ens : R .Denot → SProp 𝓤) → ((v : Val) → ent 𝓤 (c .post x v) (mean 𝓤 H A (later (some (λ (r : R .Denot). (‵ ftrue ⊛ ‵ (R .own r (v ∷ []))) ⊛ raw (Ens r))))))
+      → ((r : R .Denot) → ent 𝓤 (Ens r) (fact 𝓤 (P r))) → Opds K W (raw (c .pre x) ∷ Γ) E xs (c .args x)
+      → ((r : R .Denot) → P r → Is R r (val r ∷ []) → Seq K W Γ (lands C Λ E d (val r) rest q))
+      → Seq K W Γ (runs C Λ E (seq (call f xs d) rest) q)
+  calls-known pre R val tl P Ens is-post told os k =
+      use0 W (raw (c .pre x)) pre $ calls-at t fm c met x os (λ v.
+      use1 W (later (some (λ (r : R .Denot). (‵ ftrue ⊛ ‵ (R .own r (v ∷ []))) ⊛ raw (Ens r)))) (is-post v) $ await t tt $ pick t (λ r.
+      split t $ move t (1 ∷ []) $ use1 W (raw (fact 𝓤 (P r))) (told r) $ heard t (P r) (λ e. split t $ drop t $
+      facts t R (Is R) (shows 𝓤 H A R) r (v ∷ []) (λ is.
+      regoal t (λ (u : Val). lands C Λ E d u rest q) (ap only (tl r (v ∷ []) is)) refl $ k r e (subst (Is R r) (tl r (v ∷ []) is) is)))))
+
+  -- the same where the contract says which value it answers
+  pub calls-plain : ent 𝓤 (emp 𝓤) (c .pre x) → (R : RattleType) (val : R .Denot → Val) → Tells R (Is R) (λ y. val y ∷ [])
+      → (g : R .Denot) (Ens : R .Denot → SProp 𝓤) → ((v : Val) → ent 𝓤 (c .post x v) (mean 𝓤 H A (later (some (λ (r : R .Denot). (‵ ftrue ⊛ ‵ (R .own r (v ∷ []))) ⊛ raw (Ens r))))))
+      → ((r : R .Denot) → ent 𝓤 (Ens r) (fact 𝓤 (r ≡ g))) → Opds K W (raw (c .pre x) ∷ Γ) E xs (c .args x)
+      → (Is R g (val g ∷ []) → Seq K W Γ (lands C Λ E d (val g) rest q))
+      → Seq K W Γ (runs C Λ E (seq (call f xs d) rest) q)
+  calls-plain pre R val tl g Ens is-post told os k =
+      calls-known pre R val tl (λ (r : R .Denot). r ≡ g) Ens is-post told os
+      (λ r e. subst (λ (z : R .Denot). Is R z (val z ∷ []) → Seq K W Γ (lands C Λ E d (val z) rest q)) (sym e) k)
 
 -- the test at the head of a `while`: the turn goes on, or leaves the loop
 module _ {M : Type 1} {𝓤 : URA M} {H : Heap 𝓤} {A : Atoms 𝓤} {K : Type 0} {W : Given 𝓤 H A} {Γ : List (Item 𝓤)} {C : Calls 𝓤 H} {Λ : Loops 𝓤 H} {E : Env 𝓤 H} {q : Post 𝓤 H} where

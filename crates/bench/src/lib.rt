@@ -5,8 +5,8 @@ mod entries;
 mod lanes;
 mod line;
 mod playing;
-mod rows;
 mod row;
+mod rows;
 
 pub use row::load;
 pub use row::round;
