@@ -1,7 +1,7 @@
 -- What reading answers, in document 01's words. Nothing here goes through a recording but the search for a first place.
 use Prim.Native.Nat.{ℕ, _+_}
-use mathlib.Core.Bool.{Bool, true, false, cond, not, _||_}
-use mathlib.Core.List.{List, [], _∷_, _++_}
+use mathlib.Core.Bool.{Bool, cond, not, _||_}
+use mathlib.Core.List.{List}
 use lib.Dec.{eqb, leb, ltb}
 use lib.ListN.{length}
 use Rattle.framing.specs.declared.Response.{Response}

@@ -1,9 +1,8 @@
 -- The edges of the rules, worked from the definitions: points that document 01 settles in a word or leaves to the reader, each
 -- as one small case. Nothing else rests on them; they show that the definitions mean what one expects.
-use Prim.Native.Nat.{ℕ}
 use mathlib.Core.Path.{_≡_, refl}
 use mathlib.Core.Bool.{Bool, true, false}
-use mathlib.Core.List.{List, [], _∷_}
+use mathlib.Core.List.{[], _∷_}
 use lib.Count.{trailingZeros}
 use lib.Ieee.{Float, nan, inf, fin, ofInt, sub, add, neg, sum, round, size, units, odd, span, climb, lt, le, eq}
 use lib.IntN.{pos, negsuc}

@@ -8,7 +8,7 @@ use mathlib.Core.Logic.{_↔_}
 use lib.Ieee.{Float}
 use lib.ListN.{length, drop}
 use Rattle.volts.specs.Intervals.{intervalsOf}
-use Rattle.volts.specs.Tracing.{Outcome, wrote, turnedAway, numbered, wordsAfter, Promise}
+use Rattle.volts.specs.Tracing.{wrote, turnedAway, numbered, wordsAfter, Promise}
 use Rattle.volts.specs.Tracing.{tooManySamples, gateNotGood, tooFewWords, sampleUnusable, firstRefusal, outcome}
 use Rattle.volts.specs.Settling.{same-number}
 use Rattle.volts.specs.declared.Gate.{Gate}
