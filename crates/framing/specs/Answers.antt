@@ -33,6 +33,7 @@ pub record Told : Type 0 where
   pub responseLength : ℕ
   pub response : Response
 
+-- an answer without a frame
 abbrev pub bare : (number next opening : ℕ) → Told
 bare number next opening =
     record { number = number; next = next; opening = opening; mainLength = 0; responseLength = 0; response = Without }

@@ -41,9 +41,11 @@ facts (inResponse checked m r) = record { sofPlace = false; inPart = true; respo
 abbrev pub mainBytes : Standing → List ℕ
 mainBytes st = bytes (facts st .main)
 
+-- those of the response
 abbrev pub responseBytes : Standing → List ℕ
 responseBytes st = bytes (facts st .response)
 
+-- those of the part in which the interval stands
 abbrev pub partBytes : Standing → List ℕ
 partBytes st = bytes (facts st .part)
 

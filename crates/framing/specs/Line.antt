@@ -48,6 +48,7 @@ shuts s = is Eod s || ends s
 
 -- ## The first place
 
+-- what a search comes to: no place, or the first one
 pub data Found : Type 0 where
   nowhere : Found
   at : ℕ → Found

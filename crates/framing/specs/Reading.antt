@@ -33,6 +33,7 @@ decidedBy (at k) ws o =
     (good (mainBytes (stands ws o k)) (responseBytes (stands ws o k)) (facts (stands ws o k) .answered) o k)
     (faulty (faultAt ws o k) k)
 
+-- what the frame that opens at o is decided to be: its earliest interval that decides is looked for behind the opening
 abbrev pub decided : List ℕ → ℕ → Outcome
 decided ws o = decidedBy (firstIn (decides ws o) (o + 1) (length ws)) ws o
 

@@ -19,6 +19,7 @@ abbrev pub kindBy : Bool → Kind
 kindBy true = plain
 kindBy false = checked
 
+-- the response that a kind is
 abbrev pub responseOf : Kind → Response
 responseOf plain = Plain
 responseOf checked = Checked

@@ -114,6 +114,7 @@ framed ws p lent lengths kind o k e = go (reading ws p lent) (comes ws p lent) r
 abbrev pub mainTaken : Lengths → List ℕ → List ℕ
 mainTaken lengths lent = take (lengths .main - 1) lent
 
+-- the response, which stands behind the main part
 abbrev pub responseTaken : Response → Lengths → List ℕ → List ℕ
 responseTaken Without lengths lent = []
 responseTaken Plain lengths lent = take (lengths .response) (drop (lengths .main) lent)

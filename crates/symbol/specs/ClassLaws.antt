@@ -73,6 +73,7 @@ pub passive-edges : map (classOf false) (0 ∷ 34 ∷ 35 ∷ 96 ∷ 97 ∷ 163 �
 unfolding classOf
 passive-edges = refl
 
+-- the same where the line is active
 pub active-edges : map (classOf true) (0 ∷ 34 ∷ 35 ∷ 96 ∷ 97 ∷ 163 ∷ 164 ∷ 239 ∷ 240 ∷ 999999 ∷ 1000000 ∷ 4294967295 ∷ []) ≡
     (Noise ∷ Noise ∷ Bit1 ∷ Bit1 ∷ Bit0 ∷ Bit0 ∷ Sof ∷ Sof ∷ Break ∷ Break ∷ Stuck ∷ Stuck ∷ [])
 unfolding classOf

@@ -39,6 +39,7 @@ good c e =
       sof = inside 182 218 (c .sof .0) (k .1);
     }
 
+-- The other way round: it says true for all of them.
 pub good-test : (c : Clock) → Good c → goodOf c ≡ true
 unfolding goodOf
 good-test c g =
@@ -51,6 +52,7 @@ good-test c g =
       le-leb (c .sof .0) 218 (g .sof .1),
     )
 
+-- The nominal clock is one of them.
 pub nominal-good : goodOf nominalClock ≡ true
 unfolding goodOf
 nominal-good = refl
