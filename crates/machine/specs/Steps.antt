@@ -14,7 +14,7 @@ use Rattle.machine.specs.declared.Phase.the-variants.{Sof, Main, Normali
 use Rattle.machine.specs.declared.Machine.{Machine}
 use Rattle.machine.specs.declared.Event.the-variants.{Going, Byte, Closed, Faulty}
 use Rattle.machine.specs.declared.Stepped.{Stepped}
-use Rattle.machine.specs.declared.Asked.{Asked}
+use Rattle.machine.specs.declared.shut.Asked.{Asked}
 use Rattle.machine.specs.declared.Meaning.{Meaning}
 use Rattle.machine.specs.declared.Meaning.the-variants.{Bit, Shut, Sof as Start, Wrong}
 
