@@ -1,3 +1,2 @@
-pub mod Whole
 pub mod Walk
 pub mod Passing

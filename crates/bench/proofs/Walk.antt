@@ -10,7 +10,7 @@
 use mathlib.Core.Path.{_≡_, refl, sym, ap, subst}
 use mathlib.Core.Bool.{Bool, not}
 use mathlib.Core.Option.{Option, none, some as full}
-use Prim.Native.Nat.{ℕ, zero, suc, _+_, _<_, _*_, _^_}
+use Prim.Native.Nat.{ℕ, zero, suc, _<_, _*_, _^_}
 use native.Mathlib.Omega.{arith}
 use mathlib.Core.List.{List, [], _∷_}
 use lib.Dec.{T}
