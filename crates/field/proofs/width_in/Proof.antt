@@ -1,8 +1,8 @@
--- `judge::width_in` meets its contract: a law of `Leaves` for each way out.
-use Rattle.judge.proofs.Leaves.{width-empty, width-one, width-zero, width-more}
+-- `field::width_in` meets its contract: a law of `Leaves` for each way out.
+use Rattle.field.proofs.Leaves.{width-empty, width-one, width-zero, width-more}
 use borrow.Author.Needs.{needs}
-use Rattle.judge.proofs.width_in.Statement.{statement}
-use Rattle.judge.proofs.width_in.Tie as tie
+use Rattle.field.proofs.width_in.Statement.{statement}
+use Rattle.field.proofs.width_in.Tie as tie
 
 returns : tie.Need-returns
 returns c = search (needs, width-empty)

@@ -1,12 +1,12 @@
--- `judge::label_bytes` meets its contract: the bytes passed are all good, so that the rest decides.
-use Rattle.judge.proofs.Leaves.{every-no, every-on, every-end}
+-- `field::label_bytes` meets its contract: the bytes passed are all good, so that the rest decides.
+use Rattle.field.proofs.Leaves.{every-no, every-on, every-end}
 use Rattle.text.specs.Grammar.{every, labelByte}
 use Prim.Native.Nat.{_≤_, _-_}
 use mathlib.Core.Path.{_≡_, refl}
 use lib.ListN.{length, drop}
 use borrow.Author.Needs.{needs}
-use Rattle.judge.proofs.label_bytes.Statement.{statement}
-use Rattle.judge.proofs.label_bytes.Tie as tie
+use Rattle.field.proofs.label_bytes.Statement.{statement}
+use Rattle.field.proofs.label_bytes.Tie as tie
 
 abbrev Inv-loop : tie.InvT-loop
 Inv-loop s i₀ i = (i ≤ length s) × (every labelByte (drop i s) ≡ every labelByte s)

@@ -10,9 +10,9 @@ use lib.ListN.{length, getD, drop, drop-of-length-le}
 use lib.Seq.{drop-cons}
 use borrow.Author.Tests.{lt-ltb, le-ltb, le-leb, lt-leb, eq-eqb, ne-eqb, not-true, not-false}
 use Rattle.text.specs.Grammar.{among, every, same, labelByte, mostLabel, isLabel, digit, spells, spelt, pastU32, isWidth}
-use Rattle.judge.specs.declared.Width.{Width}
-use Rattle.judge.specs.declared.Width.the-variants.{Of, Not}
-use Rattle.judge.specs.Found.{widthBy, numberOf, widthOf}
+use Rattle.field.specs.declared.Width.{Width}
+use Rattle.field.specs.declared.Width.the-variants.{Of, Not}
+use Rattle.field.specs.Widths.{widthBy, numberOf, widthOf}
 
 -- ## A byte of a label
 

@@ -1,8 +1,8 @@
--- `judge::label_byte` meets its contract: a law of `Leaves` for each way out.
-use Rattle.judge.proofs.Leaves.{label-lower, label-upper, label-digit, label-dash, label-bar}
+-- `field::label_byte` meets its contract: a law of `Leaves` for each way out.
+use Rattle.field.proofs.Leaves.{label-lower, label-upper, label-digit, label-dash, label-bar}
 use borrow.Author.Needs.{needs}
-use Rattle.judge.proofs.label_byte.Statement.{statement}
-use Rattle.judge.proofs.label_byte.Tie as tie
+use Rattle.field.proofs.label_byte.Statement.{statement}
+use Rattle.field.proofs.label_byte.Tie as tie
 
 among-requires : tie.Need-among-requires
 among-requires c κs = search needs

@@ -1,12 +1,12 @@
--- `judge::same` meets its contract: the bytes passed are the same, so that the rest decides.
-use Rattle.judge.proofs.Leaves.{same-sizes, same-no, same-on, same-end}
+-- `field::same` meets its contract: the bytes passed are the same, so that the rest decides.
+use Rattle.field.proofs.Leaves.{same-sizes, same-no, same-on, same-end}
 use Rattle.text.specs.Grammar.{same}
 use Prim.Native.Nat.{_≤_, _-_}
 use mathlib.Core.Path.{_≡_, refl}
 use lib.ListN.{length, drop}
 use borrow.Author.Needs.{needs}
-use Rattle.judge.proofs.same.Statement.{statement}
-use Rattle.judge.proofs.same.Tie as tie
+use Rattle.field.proofs.same.Statement.{statement}
+use Rattle.field.proofs.same.Tie as tie
 
 abbrev Inv-loop : tie.InvT-loop
 Inv-loop a b i₀ i = (i ≤ length a) × (same (drop i a) (drop i b) ≡ same a b)

@@ -1,9 +1,9 @@
--- `judge::among` meets its contract: the lower bound is tested first, then the upper.
+-- `field::among` meets its contract: the lower bound is tested first, then the upper.
 use borrow.Author.Tests.{lt-leb, le-leb}
 use native.Mathlib.Omega.{arith}
 use borrow.Author.Needs.{needs}
-use Rattle.judge.proofs.among.Statement.{statement}
-use Rattle.judge.proofs.among.Tie as tie
+use Rattle.field.proofs.among.Statement.{statement}
+use Rattle.field.proofs.among.Tie as tie
 
 returns : tie.Need-returns
 returns c = rw (lt-leb _ _ (c .if1 .taken))

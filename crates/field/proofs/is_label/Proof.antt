@@ -1,8 +1,8 @@
--- `judge::is_label` meets its contract: a law of `Leaves` for each way out.
-use Rattle.judge.proofs.Leaves.{label-empty, label-long, label-fits}
+-- `field::is_label` meets its contract: a law of `Leaves` for each way out.
+use Rattle.field.proofs.Leaves.{label-empty, label-long, label-fits}
 use borrow.Author.Needs.{needs}
-use Rattle.judge.proofs.is_label.Statement.{statement}
-use Rattle.judge.proofs.is_label.Tie as tie
+use Rattle.field.proofs.is_label.Statement.{statement}
+use Rattle.field.proofs.is_label.Tie as tie
 
 returns : tie.Need-returns
 returns c = search (needs, label-empty)

@@ -1,13 +1,13 @@
--- `judge::number` meets its contract: the number so far and the digits left spell the whole.
-use Rattle.judge.proofs.Leaves.{numberFrom, number-start, number-low, number-high, number-on, number-large, number-end}
+-- `field::number` meets its contract: the number so far and the digits left spell the whole.
+use Rattle.field.proofs.Leaves.{numberFrom, number-start, number-low, number-high, number-on, number-large, number-end}
 use Rattle.text.specs.Grammar.{pastU32}
-use Rattle.judge.specs.Found.{numberOf}
+use Rattle.field.specs.Widths.{numberOf}
 use Prim.Native.Nat.{_≤_, _<_, _-_}
 use mathlib.Core.Path.{_≡_, refl}
 use lib.ListN.{length, drop}
 use borrow.Author.Needs.{needs}
-use Rattle.judge.proofs.number.Statement.{statement}
-use Rattle.judge.proofs.number.Tie as tie
+use Rattle.field.proofs.number.Statement.{statement}
+use Rattle.field.proofs.number.Tie as tie
 
 abbrev Inv-loop : tie.InvT-loop
 Inv-loop s n₀ i₀ n i = (i ≤ length s) × (n < pastU32) × (numberFrom n (drop i s) ≡ numberOf s)
