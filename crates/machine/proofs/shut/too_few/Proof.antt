@@ -1,7 +1,7 @@
--- `machine::too_few` meets its contract.
+-- `machine::shut::too_few` meets its contract.
 use Rattle.machine.proofs.Exits.{few-short, few-by}
-use Rattle.machine.proofs.too_few.Statement.{statement}
-use Rattle.machine.proofs.too_few.Tie as tie
+use Rattle.machine.proofs.shut.too_few.Statement.{statement}
+use Rattle.machine.proofs.shut.too_few.Tie as tie
 
 returns : tie.Need-returns
 returns c = few-short _ _ _ (c .if1 .taken)

@@ -1,7 +1,7 @@
--- `machine::wrong_check` meets its contract.
+-- `machine::shut::wrong_check` meets its contract.
 use borrow.Author.Needs.{needs}
-use Rattle.machine.proofs.wrong_check.Statement.{statement}
-use Rattle.machine.proofs.wrong_check.Tie as tie
+use Rattle.machine.proofs.shut.wrong_check.Statement.{statement}
+use Rattle.machine.proofs.shut.wrong_check.Tie as tie
 
 returns : tie.Need-returns
 returns c = cc

@@ -1,9 +1,9 @@
--- `machine::asked_of` meets its contract, phase by phase.
+-- `machine::shut::asked_of` meets its contract, phase by phase.
 use mathlib.Core.Path.{ap, sym, _∙_}
 use Rattle.machine.specs.Steps.{askedOf}
 use borrow.Author.Needs.{needs}
-use Rattle.machine.proofs.asked_of.Statement.{statement}
-use Rattle.machine.proofs.asked_of.Tie as tie
+use Rattle.machine.proofs.shut.asked_of.Statement.{statement}
+use Rattle.machine.proofs.shut.asked_of.Tie as tie
 
 enum-told : tie.Need-enum-told
 enum-told c = search needs

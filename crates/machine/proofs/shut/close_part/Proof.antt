@@ -1,9 +1,9 @@
--- `machine::close_part` meets its contract, test by test.
+-- `machine::shut::close_part` meets its contract, test by test.
 use mathlib.Core.Path.{refl, _∙_}
 use Rattle.machine.proofs.Exits.{close-split, close-few, close-judged}
 use borrow.Author.Needs.{needs}
-use Rattle.machine.proofs.close_part.Statement.{statement}
-use Rattle.machine.proofs.close_part.Tie as tie
+use Rattle.machine.proofs.shut.close_part.Statement.{statement}
+use Rattle.machine.proofs.shut.close_part.Tie as tie
 
 asked-of-requires : tie.Need-asked-of-requires
 asked-of-requires c κs = search needs

@@ -1,10 +1,10 @@
--- `machine::behind_eod` meets its contract, phase by phase.
+-- `machine::shut::behind_eod` meets its contract, phase by phase.
 use mathlib.Core.Path.{ap, sym, _∙_}
 use Rattle.machine.specs.declared.Phase.{Phase}
 use Rattle.machine.specs.Steps.{eodIn}
 use borrow.Author.Needs.{needs}
-use Rattle.machine.proofs.behind_eod.Statement.{statement}
-use Rattle.machine.proofs.behind_eod.Tie as tie
+use Rattle.machine.proofs.shut.behind_eod.Statement.{statement}
+use Rattle.machine.proofs.shut.behind_eod.Tie as tie
 
 enum-told : tie.Need-enum-told
 enum-told c = search needs
