@@ -53,7 +53,7 @@ use Rattle.contest.proofs.Station.Laws as T′
 use Rattle.rows.specs.declared.Bench.{Bench}
 use Rattle.rows.specs.Benches.{blankBench, withOf, benchOf}
 use Rattle.bench.specs.Restoring.{gathered, gather-start, gather-more, gather-all}
-use Rattle.bench.proofs.Walk.{Places, envOf, Locals, allocs-all, frees-all, calls-plain, tests, scaled, upFrom, lies}
+use Rattle.laws.specs.Walk.{Places, envOf, Locals, allocs-all, frees-all, calls-plain, tests, scaled, upFrom, lies}
 use Rattle.rows.proofs.Bench as B
 use Rattle.rows.proofs.Bench.Laws as B′
 use Rattle.rows.proofs.blank_bench as blank-bench

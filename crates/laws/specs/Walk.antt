@@ -1,4 +1,4 @@
--- What the walks by hand of this room share.
+-- What proofs that walk a function by hand share.
 --     Locals E os      the cells of a function's locals, local 0 first: each holds a value, or is room
 --     allocs-all       the locals are allocated, and stand in the order of the source
 --     frees-all        they are freed, whatever they hold
