@@ -46,6 +46,7 @@ fn label_byte(x: u8) -> bool
     x == b'_'
 }
 
+// Every byte is a letter, a digit, `-` or `_`.
 fn label_bytes(s: &[u8]) -> bool
     ensures { λ r. ⌜ r ≡ every labelByte (now (s .entry)) ⌝ }
 {
@@ -89,6 +90,7 @@ pub fn same(a: &[u8], b: &[u8]) -> bool
     true
 }
 
+// A byte as a u64, and a u64 that a u32 holds as a u32.
 fn wide(x: u8) -> u64
     ensures { λ r. ⌜ r ≡ x ⌝ }
 {
