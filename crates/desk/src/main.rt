@@ -23,18 +23,21 @@ const WORDS: usize = 16384;
 
 const PAGE: usize = 442463;
 
+// Room for the input.
 fn room() -> [u8; ENOUGH]
     ensures { λ r. ⌜ 1 + mostInput ≡ length r ⌝ }
 {
     [0u8; ENOUGH]
 }
 
+// Words for its widths.
 fn words() -> [u32; WORDS]
     ensures { λ r. ⌜ mostWidths ≡ length r ⌝ }
 {
     [0u32; WORDS]
 }
 
+// Bytes for the text.
 fn page() -> [u8; PAGE]
     ensures { λ r. ⌜ mostText ≡ length r ⌝ }
 {
@@ -116,6 +119,7 @@ fn serve_named(name: &[u8]) {
     serve_file(name);
 }
 
+// One argument at most: a file, `-` or `--help`.
 fn main() {
     let count = os::arg_count();
     if count > 2 {

@@ -16,6 +16,6 @@ widthBy false n = Not
 unfoldable pub numberOf : List ℕ → Width
 numberOf l = widthBy (every digit l && ltb (spelt l) pastU32) (spelt l)
 
--- a field that is a width
+-- "Widths are decimal u32, no sign or leading zero"
 unfoldable pub widthOf : List ℕ → Width
 widthOf l = widthBy (isWidth l) (spelt l)
