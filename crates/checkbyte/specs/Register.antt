@@ -22,6 +22,7 @@ residue = 0xC4
 unfoldable pub shift : ℕ → ℕ
 shift r = bitXor ((r * 2) % 256) ((r / 128 % 2) * polynomial)
 
+-- eight bits, one after the other
 unfoldable pub eightShifts : ℕ → ℕ
 unfolding shift
 eightShifts r = shift (shift (shift (shift (shift (shift (shift (shift r)))))))

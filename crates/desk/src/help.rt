@@ -1,21 +1,6 @@
 // How to use the desk, as `desk --help` prints it.
 use libc::STDOUT_FILENO;
 
-// Whether two texts are the same.
-pub(crate) fn same(a: &[u8], b: &[u8]) -> bool {
-    if a.len() != b.len() {
-        return false;
-    }
-    let mut i = 0;
-    while i < a.len() {
-        if a[i] != b[i] {
-            return false;
-        }
-        i += 1;
-    }
-    true
-}
-
 fn say(line: &[u8]) {
     io::write_all(STDOUT_FILENO, line);
 }

@@ -102,11 +102,11 @@ fn serve_file(name: &[u8]) {
 
 // The one argument: `-`, `--help` or a name.
 fn serve_named(name: &[u8]) {
-    if help::same(name, b"-") {
+    if field::same(name, b"-") {
         serve(STDIN_FILENO, b"standard input");
         return;
     }
-    if help::same(name, b"--help") {
+    if field::same(name, b"--help") {
         help::print();
         return;
     }

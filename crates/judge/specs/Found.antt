@@ -3,36 +3,24 @@ use Prim.Native.Nat.{ℕ, _+_, _≤_}
 use mathlib.Core.Path.{_≡_}
 use mathlib.Core.Bool.{Bool, true, false, _&&_}
 use mathlib.Core.List.{List, []}
-use lib.Dec.{ltb, eqb}
+use lib.Dec.{eqb}
 use lib.ListN.{length, getD}
 use lib.Seq.{sets}
 use Rattle.text.specs.declared.Labels.{Labels}
 use Rattle.text.specs.declared.Judged.{Judged}
-use Rattle.text.specs.Grammar.{fields, every, digit, spelt, pastU32, isLabel, isWidth}
+use Rattle.text.specs.Grammar.{fields, spelt, isLabel}
 use Rattle.text.specs.Input.{Line, shut, lines, field, ownLine, ivLine, mostWidths, badFrom, widthsFrom}
 use Rattle.text.specs.declared.Judged.the-variants.{Good, Bad}
-use Rattle.judge.specs.declared.Width.{Width}
-use Rattle.judge.specs.declared.Width.the-variants.{Of, Not}
+use Rattle.field.specs.declared.Width.{Width}
+use Rattle.field.specs.Widths.{widthBy}
 use Rattle.judge.specs.declared.Own.{Own}
 use Rattle.judge.specs.declared.Own.the-variants.{Of as Two, Not as None}
 use Rattle.judge.specs.declared.Taken.{Taken}
-
--- a width where a test holds
-abbrev pub widthBy : Bool → ℕ → Width
-widthBy true n = Of n
-widthBy false n = Not
 
 -- the labels where a test holds, by their lengths
 abbrev pub ownBy : Bool → List ℕ → List ℕ → Own
 ownBy true c v = Two (record { customer = length c; vehicle = length v })
 ownBy false c v = None
-
--- digits that spell a u32
-unfoldable pub numberOf : List ℕ → Width
-numberOf l = widthBy (every digit l && ltb (spelt l) pastU32) (spelt l)
-
-unfoldable pub widthOf : List ℕ → Width
-widthOf l = widthBy (isWidth l) (spelt l)
 
 -- the bytes of a line, which a newline closes, as an `iv` line and as an `own` line
 unfoldable pub ivOf : List ℕ → Width
