@@ -130,7 +130,7 @@ fn run(trial: &mut Trial, part: Part, times: usize) {
         volts_cases::random(trial, 20_000);
         writing_cases::random(trial, 20_000);
         reading_cases::random(trial, 40_000);
-        histories::random(trial, 150);
+        histories::random(trial, 300);
         desk_cases::random(trial, 1_000);
     }
 }

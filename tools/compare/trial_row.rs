@@ -71,7 +71,10 @@ fn told_row(mine: &Row, theirs: &Row) -> String {
     let place = (0..mine.all.len()).find(|i| mine.all[*i] != theirs.all[*i]);
     match place {
         None => "the row the same".to_string(),
-        Some(i) => format!("station {} is {:?}", i as isize - 2, mine.all[i]),
+        Some(i) => {
+            let place = i as isize - BEFORE as isize;
+            format!("station {place} is {:?}", mine.all[i])
+        }
     }
 }
 
