@@ -42,8 +42,11 @@ abbrev pub registerOf : List ℕ → ℕ
 registerOf bs = registerFrom allOnes bs
 
 -- "result inverted"
+abbrev pub checkFrom : ℕ → List ℕ → ℕ
+checkFrom r bs = allOnes - registerFrom r bs
+
 unfoldable pub checkOf : List ℕ → ℕ
-checkOf bs = allOnes - registerOf bs
+checkOf bs = checkFrom allOnes bs
 
 -- bytes with their check byte behind them, as they go out on the line
 abbrev pub withCheck : List ℕ → List ℕ

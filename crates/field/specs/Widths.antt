@@ -16,5 +16,6 @@ widthBy false n = Not
 unfoldable pub numberOf : List ℕ → Width
 numberOf l = widthBy (every digit l && ltb (spelt l) pastU32) (spelt l)
 
+-- "Widths are decimal u32, no sign or leading zero"
 unfoldable pub widthOf : List ℕ → Width
 widthOf l = widthBy (isWidth l) (spelt l)

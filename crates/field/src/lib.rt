@@ -46,6 +46,7 @@ fn label_byte(x: u8) -> bool
     x == b'_'
 }
 
+// Whether every byte may stand in a label.
 fn label_bytes(s: &[u8]) -> bool
     ensures { λ r. ⌜ r ≡ every labelByte (now (s .entry)) ⌝ }
 {
@@ -89,12 +90,14 @@ pub fn same(a: &[u8], b: &[u8]) -> bool
     true
 }
 
+// The same number in more bits.
 fn wide(x: u8) -> u64
     ensures { λ r. ⌜ r ≡ x ⌝ }
 {
     x as u64
 }
 
+// The same number as a width.
 fn narrow(x: u64) -> u32
     requires { ⌜ x < pastU32 ⌝ }
     ensures { λ r. ⌜ r ≡ x ⌝ }

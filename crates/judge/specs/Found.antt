@@ -22,17 +22,19 @@ abbrev pub ownBy : Bool → List ℕ → List ℕ → Own
 ownBy true c v = Two (record { customer = length c; vehicle = length v })
 ownBy false c v = None
 
--- the bytes of a line, which a newline closes, as an `iv` line and as an `own` line
+-- the bytes of a line, which a newline closes, as an `iv` line ..
 unfoldable pub ivOf : List ℕ → Width
 ivOf l = widthBy (ivLine (shut l)) (spelt (field 1 (shut l)))
 
+-- .. and as an `own` line
 unfoldable pub ownOf : List ℕ → Own
 ownOf l = ownBy (ownLine (shut l)) (field 1 (shut l)) (field 2 (shut l))
 
--- two fields that are labels
+-- a field, counted from 0
 abbrev pub fieldOf : ℕ → List ℕ → List ℕ
 fieldOf k l = getD (fields l) k []
 
+-- two fields that are labels
 unfoldable pub labelsOf : List ℕ → Own
 labelsOf l = ownBy (eqb (length (fields l)) 2 && (isLabel (fieldOf 0 l) && isLabel (fieldOf 1 l))) (fieldOf 0 l) (fieldOf 1 l)
 
@@ -48,6 +50,7 @@ abbrev pub judgedBy : Bool → Labels → ℕ → ℕ → Judged
 judgedBy true labels widths line = Good labels widths
 judgedBy false labels widths line = Bad line
 
+-- The answer behind a good first line with these labels, and the lent words.
 pub record Behind (labels : Labels) (s entry exit : List ℕ) (r : Judged) : Type 0 where
   pub answer : r ≡ judgedBy (eqb (badFrom 2 (lines s)) 0) labels (length (widthsFrom 2 (lines s))) (badFrom 2 (lines s))
   pub laid : exit ≡ sets entry 0 (widthsFrom 2 (lines s))

@@ -16,10 +16,11 @@ use Rattle.text.specs.Input.{lines, own, iv, ownLine, ivLine, ivAt, badF
 use Rattle.text.specs.Numerals.{decimalIn, decimal, hexDigit, hex}
 use Rattle.text.specs.Report.{w-frame, w-quiet, w-none, lineOf, header, rowOf, rowsOf, report, deskOf}
 
--- `c17` and `v204`
+-- `c17`
 abbrev pub c17 : List ℕ
 c17 = 99 ∷ 49 ∷ 55 ∷ []
 
+-- `v204`
 abbrev pub v204 : List ℕ
 v204 = 118 ∷ 50 ∷ 48 ∷ 52 ∷ []
 

@@ -22,12 +22,15 @@ digits-few (suc f) (suc j) n h = go (ltb n 10) (digits-few f j (n / 10) (omega (
     go true k = omega arith
     go false k = omega (arith, length-append (decimalIn f (n / 10)) (numeral (n % 10) ∷ []))
 
+-- A number below 100,000 has at most five digits ..
 pub five-digits : (n : ℕ) → n < 100000 → length (decimal n) ≤ 5
 five-digits n h = digits-few 19 4 n h
 
+-- .. and one below 100 at most two.
 pub two-digits : (n : ℕ) → n < 100 → length (decimal n) ≤ 2
 two-digits n h = digits-few 19 1 n h
 
+-- Two digits for each byte.
 pub hex-length : (bs : List ℕ) → length (hex bs) ≡ 2 * length bs
 unfolding hex
 hex-length [] = refl

@@ -1,20 +1,20 @@
--- `checkbyte::register` meets its contract. The loop's invariant: what is left, fed to the register so far, gives what
--- all the bytes give from all ones. The measure is the number of bytes left.
+-- `checkbyte::register_from` meets its contract. The loop's invariant: what is left, fed to the register so far, gives what
+-- all the bytes give from its start. The measure is the number of bytes left.
 use mathlib.Core.Path.{_≡_, refl, sym, ap, _∙_}
 use Prim.Native.Nat.{ℕ, _+_, _≤_, _-_}
 use native.Mathlib.Omega.{arith}
 use lib.ListN.{length, drop}
 use borrow.Author.Needs.{needs}
-use Rattle.checkbyte.specs.Register.{registerFrom, registerOf}
+use Rattle.checkbyte.specs.Register.{registerFrom}
 use Rattle.checkbyte.specs.Residue.{register-at, register-end}
-use Rattle.checkbyte.proofs.register.Statement.{statement}
-use Rattle.checkbyte.proofs.register.Tie as tie
+use Rattle.checkbyte.proofs.register_from.Statement.{statement}
+use Rattle.checkbyte.proofs.register_from.Tie as tie
 
 abbrev Inv-loop : tie.InvT-loop
-Inv-loop bytes r₀ i₀ r i = (i ≤ length bytes) × (registerFrom r (drop i bytes) ≡ registerOf bytes)
+Inv-loop start bytes r₀ i₀ r i = (i ≤ length bytes) × (registerFrom r (drop i bytes) ≡ registerFrom start bytes)
 
 abbrev μ-loop : tie.MeasureT-loop
-μ-loop bytes r₀ i₀ r i = length bytes - i
+μ-loop start bytes r₀ i₀ r i = length bytes - i
 
 loop-holds : tie.Need-loop-holds Inv-loop μ-loop
 loop-holds c = (omega arith, refl)
@@ -46,8 +46,8 @@ returns c =
     let l = c .before .loop in
     sym (register-end (l .r) (c .before .before .before .args .bytes .now) (l .i) (search needs) (search needs)) ∙ l .inv .1
 
-pub register-spec : {M : Type 1} → statement M
-register-spec =
+pub register-from-spec : {M : Type 1} → statement M
+register-from-spec =
     tie.close
     (tie.spec
     Inv-loop
