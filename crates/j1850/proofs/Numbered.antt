@@ -14,9 +14,9 @@ use prog.Wp.{Heap, Env, Calls, Loops}
 use ghost.Atoms.{Atoms, sem}
 use contract.Monad.{Fun, fact}
 use sound.WpLaws.{FmC}
-use types.Kit.{Given, Item, ‵, raw, Post, Goal, runs, lands, Seq, Step, _$_, _∵_, !, qed, join, frame, done}
+use types.Kit.{Given, Item, raw, Post, runs, lands, Seq, _$_, _∵_, !, qed, join, frame, done}
 use types.Run.{Opds}
-use denote.Laws.{Is, Tells}
+use denote.Laws.{Is}
 use denote.Steps.{only, owned, nothing}
 use denote.Struct.Laws as LL
 use denote.Enum.Laws as EL

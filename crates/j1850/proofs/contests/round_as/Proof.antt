@@ -1,5 +1,4 @@
 -- `contests::round_as` gives the numbers of the answer.
-use mathlib.Core.Path.{refl}
 use borrow.Author.Needs.{needs}
 use Rattle.j1850.proofs.contests.round_as.Statement.{statement}
 use Rattle.j1850.proofs.contests.round_as.Tie as tie

@@ -1,6 +1,6 @@
 -- `j1850::j1850_round` gives what the bench promises: a walk of its code, by hand. All that is lent is handed on.
-use mathlib.Core.Path.{_≡_, refl, ap, _∙_}
-use mathlib.Core.Option.{none, some as full}
+use mathlib.Core.Path.{_≡_, refl, ap}
+use mathlib.Core.Option.{some as full}
 use Prim.Native.Nat.{ℕ}
 use mathlib.Core.List.{[], _∷_, List}
 use lib.ListN.{length}
@@ -12,14 +12,13 @@ use prog.Memory.{Memory}
 use prog.Routine.{Routine}
 use prog.Wp.{Heap, WpFn, Tables}
 use ghost.Atoms.{Atoms, sem}
-use contract.Monad.{Fun, fact}
+use contract.Monad.{Fun, fact, factI}
 use contract.Running.{givenOf, tables, tablesOf}
 use contract.Lifetimes.{Lfts, Shares, AllOutlive}
-use types.Kit.{Given, ‵, raw, ⋆, _$_, _∵_, !, qed, by, move, join, suffices, frame, done}
+use types.Kit.{Given, raw, _$_, _∵_, !, qed, by, move, join, frame, done}
 use types.Run.{look, init, stop, hop, fld, from, load, addr, and-then, no-more, land, assigns, returns, enter, params1, pass1, pass0}
 use types.Part.{whole, sub, look-in, agg}
-use sound.WpLaws.{fmOf, WpFn-mono}
-use denote.RattleType.{RattleType}
+use sound.WpLaws.{fmOf}
 use denote.Laws.{Is}
 use denote.Builtin.{u32}
 use denote.Ref.{RefT}
@@ -27,10 +26,9 @@ use denote.Slice.{sliceVal, Room, slice-vals, mut-slice-tells}
 use denote.Steps.{owned, nothing}
 use denote.Struct.Laws as LL
 use denote.Triple.Statement.{Contract, Triple}
-use denote.Triple.Entry.{alive, onEntry}
+use denote.Triple.Entry.{onEntry}
 use denote.Triple.Spec.{Meets, tripleOf}
 use denote.Triple.Table.{entered, cited}
-use denote.Triple.Walked.{says, Stays, walkOf, Walks, ends-at, walked, walk-meets}
 use denote.Triple.Clauses.{ensured, Lasts, lasts}
 use Rattle.contest.specs.declared.Station.{Station}
 use Rattle.contest.specs.declared.RoundAnswer.{RoundAnswer}
@@ -38,14 +36,14 @@ use Rattle.contest.specs.Promises.{RoundPromise, said}
 use Rattle.contest.proofs.Station as T
 use Rattle.contest.proofs.RoundAnswer as C
 use Rattle.contest.proofs.RoundAnswer.Laws as C′
-use Rattle.laws.specs.Walk.{envOf, Locals, allocs-all, frees-all, calls-plain, upFrom}
+use Rattle.laws.specs.Walk.{envOf, allocs-all, frees-all, calls-plain, upFrom}
 use Rattle.bench.proofs.round as inner
 use Rattle.bench.proofs.round.Symbol as inner-def
 use Rattle.bench.proofs.round.Symbol.{name as #inner}
 use Rattle.bench.proofs.round.Met as inner-thm
 use Rattle.j1850.specs.declared.contests.RoundAnswer as plain
 use Rattle.j1850.specs.Contests.{roundAs}
-use Rattle.j1850.proofs.Handing.{stays-left, fits-left, goes-left, calls-handed}
+use Rattle.j1850.proofs.Handing.{calls-handed, hands-back, walks-on}
 use Rattle.j1850.proofs.contests.RoundAnswer as N
 use Rattle.j1850.proofs.contests.RoundAnswer.Laws as N′
 use Rattle.j1850.proofs.contests.round_as as round-as
@@ -57,9 +55,6 @@ use Rattle.j1850.proofs.row.j1850_round as f
 use Rattle.j1850.proofs.row.j1850_round.Statement as stated
 use Rattle.j1850.proofs.row.j1850_round.Code as code
 use Rattle.j1850.proofs.row.j1850_round.Code.Mir as mir
-
-abbrev stayed : Stays (f.ended .signature .params) (f.ended .kept)
-stayed = stays-left (f.ended .signature .params) (f.ended .kept)
 
 -- machine values
 abbrev answer-val : RoundAnswer → Val
@@ -105,21 +100,10 @@ module _ {M : Type 1} (𝓤 : URA M) (H : Heap 𝓤) (A : Atoms 𝓤) (W : Given
   at = (s ∷ [], (w ∷ [], tt))
 
   abbrev Post : Val → SProp 𝓤
-  Post = walkOf 𝓤 H A f.ended stayed (f.clauses 𝓤 H A mem run) .post ((κs, qs, bounds, a, at), tt)
+  Post = tripleOf 𝓤 H A f.signature (f.spec 𝓤 H A mem run) .post ((κs, qs, bounds, a, at), tt)
 
   abbrev Says : RoundAnswer → Lasts inner.ended κs a → Type 0
   Says r ws = RoundPromise (x .now) (ws .0) (m .now) (ws .1 .0) r
-
-  exits : (r : RoundAnswer) (ws : Lasts inner.ended κs a) → Says r ws → Is N.the-row (numbered r) (numbered-val (numbered r) ∷ [])
-      → ent 𝓤 (⋆ 𝓤 H A (raw (alive 𝓤 H A f.signature κs qs) ∷ ‵ (lasts inner.ended κs a ws) ∷ [])) (Post (numbered-val (numbered r)))
-  exits r ws e is =
-      qed W (raw (alive 𝓤 H A f.signature κs qs) ∷ ‵ (lasts inner.ended κs a ws) ∷ []) ∵
-      suffices ! _ (ends-at 𝓤 H A f.ended stayed (f.clauses 𝓤 H A mem run) W ((κs, qs, bounds, a, at), tt) (numbered-val (numbered r)) (numbered r) ws (fits-left κs (f.ended .signature .params) (f.ended .kept) a ws)) $
-      says ! (ap roundAs (e .says-it), e .leaves-it, e .lends-it) $
-      frame ! $ frame ! $ owned ! N.the-row (Is N.the-row) (LL.makes N.the-type N′.the-plain 𝓤 H A) (numbered r) _ is $ done !
-
-  owes : ent 𝓤 (onEntry 𝓤 H A f.signature κs qs a at) (tripleOf 𝓤 H A inner.signature (inner.spec 𝓤 H A mem run) .pre ((κs, qs, bounds, a, at), tt))
-  owes = qed W (raw (onEntry 𝓤 H A f.signature κs qs a at) ∷ []) ∵ nothing ! $ move ! (1 ∷ 0 ∷ []) $ join ! $ done !
 
   module _ (𝓣 : Tables 𝓤 H) (known : Triple 𝓤 (𝓣 .C #inner) (tripleOf 𝓤 H A inner.signature (inner.spec 𝓤 H A mem run))) (known-as : Triple 𝓤 (𝓣 .C #as) (RoundAs 𝓤 H A mem run)) where
     walk : ent 𝓤 (onEntry 𝓤 H A f.signature κs qs a at) (WpFn 𝓤 H (𝓣 .C) (𝓣 .Λ) code.function (s ∷ w ∷ []) Post)
@@ -132,7 +116,7 @@ module _ {M : Type 1} (𝓤 : URA M) (H : Heap 𝓤) (A : Atoms 𝓤) (W : Given
         assigns ! (agg ! (and-then ! (load ! (from ! (stop !)) (look ! 9 refl)) (and-then ! (load ! (from ! (fld ! refl (stop !))) (look-in ! 3 (sub ! 1 refl (whole !)))) (no-more !)))) (from ! (stop !)) (init ! 11 refl (tt, (tt, (record { fits = room .0 }, tt)))) $
         assigns ! (addr ! (from ! (fld ! refl (hop ! (look-in ! 5 (sub ! 0 refl (whole !))) (stop !))))) (from ! (stop !)) (init ! 13 refl (tt, tt)) $
         assigns ! (agg ! (and-then ! (load ! (from ! (stop !)) (look ! 13 refl)) (and-then ! (load ! (from ! (fld ! refl (stop !))) (look-in ! 5 (sub ! 1 refl (whole !)))) (no-more !)))) (from ! (stop !)) (init ! 15 refl (tt, (tt, (record { fits = room′ .0 }, tt)))) $
-        calls-handed ! (fmOf 𝓤 H (W .laws) 𝓣) inner.ended (inner.clauses 𝓤 H A mem run) known κs qs bounds a at tt owes answer-val (LL.tells C.the-type C′.the-laws) Says (λ r ws. id⊢ 𝓤 _)
+        calls-handed ! (fmOf 𝓤 H (W .laws) 𝓣) inner.ended (inner.clauses 𝓤 H A mem run) known κs qs bounds a at tt (id⊢ 𝓤 _) answer-val (LL.tells C.the-type C′.the-laws) Says (λ r ws. id⊢ 𝓤 _)
         (and-then ! (load ! (from ! (stop !)) (look ! 11 refl)) (and-then ! (load ! (from ! (stop !)) (look ! 15 refl)) (no-more !))) (λ r ws e is.
         -- [the tokens; the last values], and local i at 2 + 2 i
         land ! (from ! (stop !)) (init ! 8 refl (LL.lawful C.the-type C′.the-laws 𝓤 H A W .typed r _ is .0)) $
@@ -141,15 +125,12 @@ module _ {M : Type 1} (𝓤 : URA M) (H : Heap 𝓤) (A : Atoms 𝓤) (W : Given
         land ! (from ! (stop !)) (init ! 2 refl (LL.lawful N.the-type N′.the-laws 𝓤 H A W .typed (numbered r) _ is-n .0)) $
         returns ! (look ! 2 refl) $ move ! (upFrom 2 16) $
         frees-all ! (envOf mir.locals bs) (full (numbered-val (numbered r)) ∷ full s ∷ full w ∷ full (answer-val r) ∷ full (vptr (x .ptr .0) (x .ptr .1)) ∷ full s ∷ full (vptr (m .ptr .0) (m .ptr .1)) ∷ full w ∷ []) $
-        by ! (exits r ws e is-n))))
+        by ! (hands-back 𝓤 H A W f.ended (f.clauses 𝓤 H A mem run) κs qs bounds a at tt _ (numbered r) ws (LL.makes N.the-type N′.the-plain 𝓤 H A (numbered r) _ is-n) (factI 𝓤 _ (emp 𝓤) (ap roundAs (e .says-it), e .leaves-it, e .lends-it))))))
 
 module _ {M : Type 1} (𝓤 : URA M) (H : Heap 𝓤) (A : Atoms 𝓤) (W : Given 𝓤 H A) (mem : Memory → SProp 𝓤) (run : Routine → Fun 𝓤) (𝓣 : Tables 𝓤 H) (known : Triple 𝓤 (𝓣 .C #inner) (tripleOf 𝓤 H A inner.signature (inner.spec 𝓤 H A mem run))) (known-as : Triple 𝓤 (𝓣 .C #as) (RoundAs 𝓤 H A mem run)) where
-  walks : Walks 𝓤 H A f.ended stayed (WpFn 𝓤 H (𝓣 .C) (𝓣 .Λ) code.function) (f.clauses 𝓤 H A mem run)
-  walks = walked 𝓤 H A f.ended stayed (f.clauses 𝓤 H A mem run) (WpFn 𝓤 H (𝓣 .C) (𝓣 .Λ) code.function) (λ κs. (slice-vals, (slice-vals, tt))) (λ κs. (mut-slice-tells (named 0) (κs .0) T.the-row, (mut-slice-tells (named 1) (κs .1 .0) u32, tt)))
-      (λ κs qs bounds a g are. via 𝓤 _ (fst∗ 𝓤 _ (emp 𝓤)) (walk 𝓤 H A W mem run κs qs bounds (a .0) (are .0 .0 .1) (a .1 .0) (are .1 .0 .0 .1) 𝓣 known known-as))
-
   meets : Meets 𝓤 H A f.signature (WpFn 𝓤 H (𝓣 .C) (𝓣 .Λ) code.function) (f.spec 𝓤 H A mem run)
-  meets = walk-meets 𝓤 H A f.ended stayed W (goes-left 𝓤 H A W (f.signature .params) (f.ended .kept)) (f.clauses 𝓤 H A mem run) (WpFn 𝓤 H (𝓣 .C) (𝓣 .Λ) code.function) (WpFn-mono 𝓤 H (W .laws) 𝓣 code.function) walks
+  meets = walks-on 𝓤 H A W f.ended (f.clauses 𝓤 H A mem run) (WpFn 𝓤 H (𝓣 .C) (𝓣 .Λ) code.function) (λ κs. (slice-vals, (slice-vals, tt))) (λ κs. (mut-slice-tells (named 0) (κs .0) T.the-row, (mut-slice-tells (named 1) (κs .1 .0) u32, tt)))
+      (λ κs qs bounds a g are. via 𝓤 _ (fst∗ 𝓤 _ (emp 𝓤)) (walk 𝓤 H A W mem run κs qs bounds (a .0) (are .0 .0 .1) (a .1 .0) (are .1 .0 .0 .1) 𝓣 known known-as))
 
 pub j1850-round-spec : {M : Type 1} → stated.statement M
 unfolding code.routine tablesOf
