@@ -61,13 +61,16 @@ fn width_for(short: u32, long: u32, active: bool, one: bool) -> u32
 fn asks(lane: Lane, active: bool, j: usize) -> Ask
     ensures { λ r. ⌜ r ≡ askOf lane active j ⌝ }
 {
-    if lane.count == 0 {
+    let count = lane.count;
+    let lost = lane.lost;
+    let gone = 0 < lost;
+    if count == 0 {
         return Ask::Out;
     }
-    if 0 < lane.lost {
+    if gone {
         return Ask::Out;
     }
-    if lane.count <= j {
+    if count <= j {
         return Ask::Ended;
     }
     let one = bit_of(lane.byte, j);
