@@ -62,8 +62,9 @@ fn asks(
     requires { ⌜ (i < 32) × (j < 96) ⌝ }
     ensures { λ r. ⌜ r ≡ askOf (laneAt (lanesOf (now (counts .entry)) (now (frames .entry)) (now (shorts .entry)) (now (longs .entry))) (now (lost .entry)) j i) active j ⌝ }
 {
-    let gone = lost[i];
-    if 0 < gone {
+    let lost_at = lost[i];
+    let gone = 0 < lost_at;
+    if gone {
         return Ask::Out;
     }
     let count = counts[i];

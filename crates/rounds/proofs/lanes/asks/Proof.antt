@@ -1,21 +1,21 @@
 -- `rounds::asks` meets its contract: a way out for each answer.
 use mathlib.Core.Path.{sym}
-use borrow.Author.Tests.{eq-eqb, ne-eqb, lt-ltb, le-ltb, le-leb, lt-leb}
+use borrow.Author.Tests.{eq-eqb, ne-eqb, le-leb, lt-leb}
 use Rattle.rounds.specs.Lanes.{laneAt, askOf}
 use Rattle.rounds.specs.LoopLaws.{out-lost}
 use borrow.Author.Needs.{needs}
 use Rattle.rounds.proofs.lanes.asks.Statement.{statement}
 use Rattle.rounds.proofs.lanes.asks.Tie as tie
 
-mul-gone : tie.Need-mul-gone
-mul-gone c = search needs
+mul-lost-at : tie.Need-mul-lost-at
+mul-lost-at c = search needs
 
-element-copy-out-gone : tie.Need-element-copy-out-gone
-element-copy-out-gone c = search needs
+element-copy-out-lost-at : tie.Need-element-copy-out-lost-at
+element-copy-out-lost-at c = search needs
 
 returns : tie.Need-returns
 unfolding laneAt
-returns c = sym (out-lost _ _ _ (lt-ltb _ _ (c .if1 .taken)))
+returns c = sym (out-lost _ _ _ (c .if1 .taken))
 
 mul-count : tie.Need-mul-count
 mul-count c = search needs
@@ -29,7 +29,7 @@ returns-2 c = rw (eq-eqb _ _ (c .if2 .taken))
 
 returns-3 : tie.Need-returns-3
 unfolding askOf laneAt
-returns-3 c = rw (ne-eqb _ _ (c .before .if2 .left), le-ltb _ _ (c .before .before .before .if1 .left), le-leb _ _ (c .if3 .taken))
+returns-3 c = rw (ne-eqb _ _ (c .before .if2 .left), c .before .before .before .if1 .left, le-leb _ _ (c .if3 .taken))
 
 mul-bit-of : tie.Need-mul-bit-of
 mul-bit-of c = search needs
@@ -61,14 +61,14 @@ width-for-requires c κs = search needs
 returns-4 : tie.Need-returns-4
 unfolding askOf laneAt
 returns-4 c =
-    rw (ne-eqb _ _ (c .before .before .before .before .before .before .if2 .left), le-ltb _ _ (c .before .before .before .before .before .before .before .before .if1 .left), lt-leb _ _ (c .before .before .before .before .before .if3 .left), c .width-for .ensures, c .before .before .before .bit-of .ensures)
+    rw (ne-eqb _ _ (c .before .before .before .before .before .before .if2 .left), c .before .before .before .before .before .before .before .before .if1 .left, lt-leb _ _ (c .before .before .before .before .before .if3 .left), c .width-for .ensures, c .before .before .before .bit-of .ensures)
 
 pub asks-spec : {M : Type 1} → statement M
 asks-spec =
     tie.close
     (tie.spec
-    mul-gone
-    element-copy-out-gone
+    mul-lost-at
+    element-copy-out-lost-at
     returns
     mul-count
     element-copy-out-count
