@@ -113,7 +113,7 @@ fn lesser(a: u32, b: u32) -> u32
 }
 
 // What all places ask of the line at bit j.
-pub fn all_ask(
+pub(crate) fn all_ask(
     counts: &[usize; 32],
     frames: &[[u8; 12]; 32],
     shorts: &[u32; 32],
@@ -151,7 +151,7 @@ fn lost_by(ask: Ask, lost: usize, k: usize, one: bool) -> usize
 }
 
 // Every place hears bit j.
-pub fn hear(
+pub(crate) fn hear(
     counts: &[usize; 32],
     frames: &[[u8; 12]; 32],
     shorts: &[u32; 32],
@@ -173,7 +173,7 @@ pub fn hear(
 }
 
 // The bit on the line: the one that the table of symbols gives to its width, at its level.
-pub fn on_line(active: bool, width: u32) -> bool
+pub(crate) fn on_line(active: bool, width: u32) -> bool
     ensures { λ r. ⌜ r ≡ onLine active width ⌝ }
 {
     let symbol = symbol::class(active, Micros(width));
