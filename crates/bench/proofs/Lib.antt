@@ -1,3 +1,1 @@
-pub mod Whole
-pub mod Walk
 pub mod Passing

@@ -1,34 +1,26 @@
 -- The calls on a lent row keep their promises: the row is gathered into a bench, the bench is worked on, and put back.
-use Prim.Native.Nat.{ℕ, _+_, _-_, _≤_, _<_}
-use mathlib.Core.Path.{_≡_, refl, sym, ap, ap₂, _∙_}
-use mathlib.Core.Bool.{Bool, true, false, cond, not, _||_}
-use mathlib.Core.List.{List, [], _∷_, _++_, map, append-nil}
+use Prim.Native.Nat.{ℕ, _-_, _≤_, _<_}
+use mathlib.Core.Path.{_≡_, refl, ap, _∙_}
+use mathlib.Core.Bool.{Bool, true, false, cond, not}
+use mathlib.Core.List.{List}
 use native.Mathlib.Omega.{arith}
 use lib.Dec.{eqb, leb, ltb}
-use lib.ListN.{length, take, getD, set, replicate, length-append, length-set, length-map, length-replicate, List·getD-append}
-use lib.Seq.{take-set-lt, take-append-seam, take-at}
+use lib.ListN.{length, take, getD, set, replicate, length-set, List·getD-append}
+use lib.Seq.{take-set-lt, take-append-seam}
 use borrow.Author.Tests.{eqb-true, leb-false, ltb-false}
-use Rattle.laws.specs.Tests.{never, neither}
+use Rattle.laws.specs.Tests.{neither}
 use Rattle.symbol.specs.declared.Clock.{Clock}
-use Rattle.framing.specs.Writing.{mostWords}
 use Rattle.contest.specs.declared.Station.{Station}
-use Rattle.contest.specs.declared.Called.{Called}
-use Rattle.contest.specs.declared.Fared.{Fared}
-use Rattle.contest.specs.declared.Fared.the-variants.{Idle}
-use Rattle.contest.specs.Stations.{mostStations, empty, blank}
-use Rattle.contest.specs.Contest.{Round, roundOf, verdictOf, verdictsOf, emptied, afterFares}
-use Rattle.contest.specs.Calls.{Call, load, withdraw, setClock, round, rowSize, allSound, unsoundStation, noStation, badMessage, badClock, holding, nothingToWithdraw, fewWords, allEmpty, refuse, numberOf, taken, loaded, clocked, at, done, after, lentAfter}
-use Rattle.contest.specs.Promises.{calledNumber, LoadPromise, WithdrawPromise, ClockPromise, RoundPromise, said, played, turnedAway, roundSays}
-use Rattle.contest.specs.RowLaws.{winnerOf, faresAgainst, row-fares}
-use Rattle.bench.specs.declared.rows.Bench.{Bench}
-use Rattle.bench.specs.declared.calls.Changed.{Changed}
-use Rattle.bench.specs.declared.playing.Played.{Played}
-use Rattle.bench.specs.Benches.{withOf, benchOf}
-use Rattle.bench.specs.Changes.{stationOf, ChangedBy, rowNumber, andThen, loadRules, loadNumber, loadedBench, withdrawRules, withdrawNumber, withdrawnBench, clockRules, clockNumber, clockedBench}
-use Rattle.bench.specs.Rounds.{roundNumber, numberOn, PlayedBy}
-use Rattle.bench.specs.Entries.{surveyOf}
-use Rattle.bench.specs.Padding.{sound-pad, empty-pad, round-pad, after-pad}
-use Rattle.bench.specs.Restoring.{padded, bench-places, putBack, put-first, put-same}
+use Rattle.contest.specs.Stations.{mostStations, blank}
+use Rattle.contest.specs.Contest.{emptied}
+use Rattle.contest.specs.Calls.{load, withdraw, setClock, rowSize, allSound, unsoundStation, noStation, badMessage, badClock, holding, nothingToWithdraw, allEmpty, refuse, numberOf, taken, loaded, clocked, at, done, after}
+use Rattle.contest.specs.Promises.{LoadPromise, WithdrawPromise, ClockPromise}
+use Rattle.rows.specs.declared.Bench.{Bench}
+use Rattle.rows.specs.declared.calls.Changed.{Changed}
+use Rattle.rows.specs.Benches.{withOf, benchOf}
+use Rattle.rows.specs.Changes.{stationOf, ChangedBy, rowNumber, andThen, loadRules, loadNumber, loadedBench, withdrawRules, withdrawNumber, withdrawnBench, clockRules, clockNumber, clockedBench}
+use Rattle.bench.specs.Padding.{sound-pad, empty-pad}
+use Rattle.bench.specs.Restoring.{padded, putBack, put-first, put-same}
 
 -- ## A row that is not turned away for its size
 

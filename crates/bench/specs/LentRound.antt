@@ -1,28 +1,27 @@
 -- A round on a lent row keeps its promise: the row is gathered into a bench, the round is played on the bench, and the bench
 -- is put back.
-use Prim.Native.Nat.{ℕ, zero, suc, _+_, _-_, _≤_, _<_}
-use mathlib.Core.Path.{_≡_, refl, sym, ap, ap₂, _∙_}
+use Prim.Native.Nat.{ℕ, suc, _+_, _-_, _≤_}
+use mathlib.Core.Path.{_≡_, refl, ap, ap₂, _∙_}
 use mathlib.Core.Bool.{Bool, true, false, cond, not}
 use mathlib.Core.List.{List, [], _∷_, _++_, map, append-nil}
 use native.Mathlib.Omega.{arith}
-use lib.Dec.{eqb, ltb}
+use lib.Dec.{eqb}
 use lib.ListN.{length, take, replicate, length-append, length-map, length-replicate}
 use lib.Seq.{take-at}
 use borrow.Author.Tests.{eqb-true, not-false}
-use Rattle.framing.specs.Writing.{mostWords}
 use Rattle.contest.specs.declared.Station.{Station}
 use Rattle.contest.specs.declared.Fared.{Fared}
 use Rattle.contest.specs.declared.Fared.the-variants.{Idle}
 use Rattle.contest.specs.declared.Verdict.{Verdict}
 use Rattle.contest.specs.Stations.{mostStations, blank}
-use Rattle.contest.specs.Contest.{Round, roundOf, verdictOf, verdictsOf, afterFare, afterFares}
+use Rattle.contest.specs.Contest.{Round, roundOf, verdictOf, verdictsOf, afterFares}
 use Rattle.contest.specs.Calls.{round, rowSize, allSound, unsoundStation, allEmpty, fewWords, nobodyWaiting, refuse, numberOf, taken, done, after, written, lentAfter}
 use Rattle.contest.specs.Promises.{RoundSaid, RoundPromise, said, played, turnedAway, roundSays}
 use Rattle.contest.specs.RowLaws.{winnerOf, faresAgainst, row-fares}
-use Rattle.bench.specs.declared.rows.Bench.{Bench}
-use Rattle.bench.specs.declared.playing.Played.{Played}
-use Rattle.bench.specs.Benches.{benchOf}
-use Rattle.bench.specs.Rounds.{roundNumber, numberOn, PlayedBy}
+use Rattle.rows.specs.declared.Bench.{Bench}
+use Rattle.rounds.specs.declared.playing.Played.{Played}
+use Rattle.rows.specs.Benches.{benchOf}
+use Rattle.rounds.specs.Rounds.{roundNumber, numberOn, PlayedBy}
 use Rattle.bench.specs.Padding.{map-append, map-replicate, round-pad, after-pad}
 use Rattle.bench.specs.Restoring.{padded, putBack, put-first, put-same}
 use Rattle.bench.specs.Lent.{sound-same, empty-same, few-of}

@@ -1,17 +1,17 @@
 -- A row and blank stations past its end: the same rules, the same round, idle past the row.
-use Prim.Native.Nat.{ℕ, zero, suc, _+_, _-_, _≤_, _<_}
-use mathlib.Core.Path.{_≡_, refl, sym, ap, ap₂, _∙_}
-use mathlib.Core.Bool.{Bool, true, false, cond, not, _&&_}
-use mathlib.Core.List.{List, [], _∷_, _++_, map, append-nil, append-assoc}
+use Prim.Native.Nat.{ℕ, zero, suc, _+_, _-_}
+use mathlib.Core.Path.{_≡_, refl, ap, _∙_}
+use mathlib.Core.Bool.{Bool, true, false, cond, not}
+use mathlib.Core.List.{List, [], _∷_, _++_, map}
 use native.Mathlib.Omega.{arith}
 use lib.ListN.{length, replicate}
 use Rattle.symbol.specs.SendingLaws.{nominal-good}
 use Rattle.contest.specs.declared.Station.{Station}
 use Rattle.contest.specs.declared.Fared.{Fared}
 use Rattle.contest.specs.declared.Fared.the-variants.{Idle}
-use Rattle.contest.specs.Stations.{empty, sound, blank}
-use Rattle.contest.specs.Round.{Pulse, Seat, out, on, asks, asked, widthsOf, longest, lasts, onLine, heard, Course, over, bitThen, nobodyAsks, mostBits, play, faredAt}
-use Rattle.contest.specs.Contest.{Entry, absent, entryOf, sofAsks, sofsAsked, seatOf, Round, told, contestOf, roundOf, afterFare, afterFares}
+use Rattle.contest.specs.Stations.{blank}
+use Rattle.contest.specs.Round.{Pulse, Seat, out, asks, asked, widthsOf, lasts, onLine, heard, Course, over, bitThen, nobodyAsks, mostBits, play, faredAt}
+use Rattle.contest.specs.Contest.{Entry, absent, entryOf, sofAsks, sofsAsked, seatOf, contestOf, roundOf, afterFare, afterFares}
 use Rattle.contest.specs.Calls.{allSound, allEmpty}
 
 -- places that take no part

@@ -1,18 +1,18 @@
 -- A lent row becomes a bench, and a bench goes back into the lent row.
 use Prim.Native.Nat.{ℕ, zero, suc, _+_, _-_, _≤_, _<_}
-use mathlib.Core.Path.{_≡_, refl, sym, ap, ap₂, _∙_}
+use mathlib.Core.Path.{_≡_, refl, sym, ap, _∙_}
 use mathlib.Core.Logic.{_⊎_, inl, inr}
 use mathlib.Core.List.{List, [], _∷_, _++_, map}
 use native.Mathlib.Omega.{arith}
-use lib.ListN.{length, take, drop, getD, set, replicate, length-append, length-replicate, length-take, List·getD-append, List·getD-eq-default}
+use lib.ListN.{length, take, getD, set, replicate, length-append, length-replicate, length-take, List·getD-append, List·getD-eq-default}
 use lib.Seq.{getD-take, take-suc, take-length, take-append-le, take-all, take-set-lt, length-take-le, set-at, set-out, append-snoc}
 use native.Mathlib.Numerals.{add-one}
 use Rattle.laws.specs.Tests.{upTo}
 use Rattle.contest.specs.declared.Station.{Station}
 use Rattle.contest.specs.Stations.{mostStations, blank}
-use Rattle.bench.specs.declared.rows.Bench.{Bench}
-use Rattle.bench.specs.Scan.{from, from-same, from-length, from-list, getD-any}
-use Rattle.bench.specs.Benches.{blankBench, withOf, benchOf}
+use Rattle.rows.specs.declared.Bench.{Bench}
+use Rattle.rows.specs.Scan.{from, from-same, from-length, from-list, getD-any}
+use Rattle.rows.specs.Benches.{blankBench, withOf, benchOf}
 
 -- ## Gathering
 

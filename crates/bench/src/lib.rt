@@ -1,12 +1,6 @@
 // The contest bench: the calls on a lent row of stations, worked out. What each of them answers and leaves behind is
 // defined in the room below, in document 01's words.
-mod calls;
-mod entries;
-mod lanes;
-mod line;
-mod playing;
 mod row;
-mod rows;
 
 pub use row::load;
 pub use row::round;

@@ -2,15 +2,12 @@
 // value, and puts it back.
 ghost use mathlib.Core.Path.{_≡_};
 ghost use Rattle.contest.specs.Promises.{LoadPromise, WithdrawPromise, ClockPromise, RoundPromise};
-ghost use Rattle.bench.specs.Benches.{benchOf};
+ghost use Rattle.rows.specs.Benches.{benchOf};
 ghost use Rattle.bench.specs.Restoring.{putBack};
-use crate::calls;
-use crate::playing;
-use crate::rows;
-use crate::rows::Bench;
 use contest::Called;
 use contest::RoundAnswer;
 use contest::Station;
+use rows::Bench;
 use symbol::Clock;
 
 // The bench of a row.
@@ -45,7 +42,7 @@ pub fn load(row: &mut [Station], place: usize, message: &[u8]) -> Called
     ensures { λ r. ⌜ LoadPromise place (now (message .entry)) (now (row .entry)) (now (row .exit)) r ⌝ }
 {
     let bench = gathered(row);
-    let changed = calls::load_on(bench, place, message);
+    let changed = rows::load_on(bench, place, message);
     put_back(row, changed.bench);
     changed.called
 }
@@ -55,7 +52,7 @@ pub fn withdraw(row: &mut [Station], place: usize) -> Called
     ensures { λ r. ⌜ WithdrawPromise place (now (row .entry)) (now (row .exit)) r ⌝ }
 {
     let bench = gathered(row);
-    let changed = calls::withdraw_on(bench, place);
+    let changed = rows::withdraw_on(bench, place);
     put_back(row, changed.bench);
     changed.called
 }
@@ -65,7 +62,7 @@ pub fn set_clock(row: &mut [Station], place: usize, clock: Clock) -> Called
     ensures { λ r. ⌜ ClockPromise place clock (now (row .entry)) (now (row .exit)) r ⌝ }
 {
     let bench = gathered(row);
-    let changed = calls::set_clock_on(bench, place, clock);
+    let changed = rows::set_clock_on(bench, place, clock);
     put_back(row, changed.bench);
     changed.called
 }
@@ -75,7 +72,7 @@ pub fn round(row: &mut [Station], words: &mut [u32]) -> RoundAnswer
     ensures { λ r. ⌜ RoundPromise (now (row .entry)) (now (row .exit)) (now (words .entry)) (now (words .exit)) r ⌝ }
 {
     let bench = gathered(row);
-    let played = playing::round_on(bench, words);
+    let played = rounds::round_on(bench, words);
     put_back(row, played.bench);
     played.answer
 }

@@ -35,6 +35,7 @@ pub step-lt : (r b : ℕ) → stepOf r b < 256
 unfolding stepOf
 step-lt r b = eight-lt (bitXor r b)
 
+-- The same over any bytes.
 pub register-lt : (r : ℕ) (bs : List ℕ) → r < 256 → registerFrom r bs < 256
 unfolding registerFrom
 register-lt r [] h = h
@@ -55,6 +56,7 @@ register-append r (x ∷ a) b = register-append (stepOf r x) a b
 inverseTest : ℕ → Bool
 inverseTest r = eqb (stepOf r (allOnes - r)) residue
 
+-- A register that is fed its own inverse, which is what the check byte does, ends at 0xC4.
 pub inverse : (r : ℕ) → r < 256 → stepOf r (allOnes - r) ≡ residue
 unfolding inverseTest stepOf
 inverse r h = eqb→eq (stepOf r (allOnes - r)) residue (each 256 inverseTest tt r h)
@@ -65,6 +67,7 @@ unfolding registerFrom checkOf
 residue-is bs =
     register-append allOnes bs (checkOf bs ∷ []) ∙ inverse (registerOf bs) (register-lt allOnes bs (omega arith))
 
+-- So the test for a right check byte says true of every message with its check byte.
 pub ends-right : (bs : List ℕ) → endsRight (withCheck bs) ≡ true
 unfolding endsRight
 ends-right bs = eq-eqb (registerOf (withCheck bs)) residue (residue-is bs)

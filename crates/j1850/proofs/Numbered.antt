@@ -27,7 +27,7 @@ use Rattle.contest.specs.declared.Called.{Called}
 use Rattle.contest.specs.Promises.{calledNumber}
 use Rattle.contest.proofs.Called as C
 use Rattle.contest.proofs.Called.Laws as C′
-use Rattle.bench.proofs.Walk.{calls-plain}
+use Rattle.laws.specs.Walk.{calls-plain}
 use Rattle.j1850.specs.declared.contests.CallAnswer.{CallAnswer}
 use Rattle.j1850.specs.Contests.{calledAs}
 use Rattle.j1850.proofs.contests.CallAnswer as N

@@ -8,7 +8,7 @@ use Rattle.contest.specs.declared.Verdict as contest
 use Rattle.contest.specs.declared.Fared.the-variants.{Idle}
 use Rattle.contest.specs.Stations.{mostStations}
 use Rattle.contest.specs.Contest.{verdictOf}
-use Rattle.bench.specs.Scan as scan
+use Rattle.rows.specs.Scan as scan
 use Rattle.j1850.specs.declared.contests.Verdict.{Verdict}
 use Rattle.j1850.specs.Contests.{verdictAs}
 

@@ -14,10 +14,11 @@ use Rattle.laws.specs.Tests.{never}
 use Rattle.text.specs.Grammar.{newline, spelt}
 use Rattle.text.specs.Input.{Line, shut, unshut, lines, field, ivLine, ivAt, mostWidths, badFrom, widthsFrom}
 use Rattle.text.specs.PieceLaws.{lines-first, lines-none}
-use Rattle.judge.specs.declared.Width.{Width}
-use Rattle.judge.specs.declared.Width.the-variants.{Of, Not}
+use Rattle.field.specs.declared.Width.{Width}
+use Rattle.field.specs.declared.Width.the-variants.{Of, Not}
 use Rattle.judge.specs.declared.Taken.{Taken}
-use Rattle.judge.specs.Found.{widthBy, ivOf, Taking}
+use Rattle.judge.specs.Found.{ivOf, Taking}
+use Rattle.field.specs.Widths.{widthBy}
 use Rattle.judge.proofs.Fields.{rest-all, found}
 
 -- k widths are laid, and the lines of t are left

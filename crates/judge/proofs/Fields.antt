@@ -13,11 +13,12 @@ use Rattle.bytes.specs.Bytes.{indexOf, slice}
 use Rattle.text.specs.Grammar.{tab, pieces, fields, every, same, labelByte, isLabel, digit, spelt, isWidth}
 use Rattle.text.specs.Input.{shut, own, iv, ivLine, ownLine}
 use Rattle.text.specs.PieceLaws.{pieces-first, pieces-none, Shape, one, several, shape}
-use Rattle.judge.specs.declared.Width.{Width}
-use Rattle.judge.specs.declared.Width.the-variants.{Of, Not}
+use Rattle.field.specs.declared.Width.{Width}
+use Rattle.field.specs.declared.Width.the-variants.{Of, Not}
 use Rattle.judge.specs.declared.Own.{Own}
 use Rattle.judge.specs.declared.Own.the-variants.{Of as Two, Not as None}
-use Rattle.judge.specs.Found.{widthBy, ownBy, widthOf, ivOf, ownOf, labelsOf}
+use Rattle.judge.specs.Found.{ownBy, ivOf, ownOf, labelsOf}
+use Rattle.field.specs.Widths.{widthBy, widthOf}
 
 -- the part from a on, as `&s[a..]` gives it
 pub rest-all : (s : List ℕ) (a : ℕ) → take (length s - a) (drop a s) ≡ drop a s

@@ -47,6 +47,7 @@ pub(crate) fn put_place(n: usize, lent: &mut [u8], at: usize) -> usize
     put(b"\t", lent, k)
 }
 
+// The digit of a number below 16.
 fn hex_digit(d: u8) -> u8
     requires { ⌜ d < 16 ⌝ }
     ensures { λ r. ⌜ r ≡ hexDigit d ⌝ }
@@ -54,12 +55,14 @@ fn hex_digit(d: u8) -> u8
     if d < 10 { b'0' + d } else { b'A' - 10 + d }
 }
 
+// A byte's first hex digit.
 fn high(b: u8) -> u8
     ensures { λ r. ⌜ r ≡ hexDigit (b / 16) ⌝ }
 {
     hex_digit(b / 16)
 }
 
+// And its second.
 fn low(b: u8) -> u8
     ensures { λ r. ⌜ r ≡ hexDigit (b % 16) ⌝ }
 {

@@ -86,6 +86,7 @@ mostRow (unfinished opening) = 55
 mostRow (refused number) = 0
 
 module _ (customer vehicle : List ℕ) (c : length customer ≤ mostLabel) (v : length vehicle ≤ mostLabel) where
+  -- No line is longer.
   pub row-size : (ws : List ℕ) (p : ℕ) (x : Outcome) → length ws ≤ mostWidths → p ≤ length ws → Answer ws p x → length (rowOf customer vehicle x) ≤ mostRow x
   unfolding rowOf
   row-size ws p x h i isSilence =
@@ -154,6 +155,7 @@ module _ (customer vehicle : List ℕ) (c : length customer ≤ mostLabel) (v : 
     pub answers-few : 2 * length (answers ws) ≤ length ws + 2
     answers-few = omega (arith, fits (omega arith) all-read .lines)
 
+    -- No report is longer than what is asked to be lent.
     pub report-size : length (report customer vehicle ws) ≤ mostText
     unfolding report
     report-size = omega (arith, fits (omega arith) all-read .bytes, length-append header (rowsOf customer vehicle (answers ws)))

@@ -42,6 +42,7 @@ three (a ∷ b ∷ []) h = absurd (omega arith)
 three (a ∷ b ∷ c ∷ []) h = refl
 three (a ∷ b ∷ c ∷ d ∷ ds) h = absurd (omega arith)
 
+-- A good first line is made so.
 pub own-is : (l : Line) → ownLine l ≡ true → OwnIs l
 unfolding ownLine
 own-is l e =
@@ -57,6 +58,7 @@ own-is l e =
       vehicle = d .1;
     }
 
+-- A good later line is made so.
 pub iv-is : (l : Line) → ivLine l ≡ true → IvIs l
 unfolding ivLine
 iv-is l e =
@@ -72,6 +74,7 @@ iv-is l e =
 
 -- ## How long they are
 
+-- A label has 1 to 16 bytes.
 pub label-size : (l : List ℕ) → isLabel l ≡ true → (1 ≤ length l) × (length l ≤ mostLabel)
 unfolding isLabel
 label-size l e =
@@ -114,13 +117,15 @@ width-size (d ∷ f ∷ ds) e =
         let q : 10 ^ 10 ≤ 10 ^ (0 + length (f ∷ ds)) = pow-le-pow-right {n = 10} (omega arith) {i = 10} {j = 0 + length (f ∷ ds)} (omega arith) in
         absurd (omega arith)
 
--- the most bytes of a good first line and of a good later one, without their newlines
+-- the most bytes of a good first line, without its newline: `own`, two tabs and two labels
 abbrev pub mostOwn : ℕ
 mostOwn = 37
 
+-- and of a good later one: `iv`, a tab and ten digits
 abbrev pub mostIv : ℕ
 mostIv = 13
 
+-- No good first line is longer ..
 pub own-size : (l : Line) → ownLine l ≡ true → length (l .bytes) ≤ mostOwn
 own-size l e =
     let a = own-is l e in
@@ -128,6 +133,7 @@ own-size l e =
     let c = label-size (field 2 l) (a .vehicle) in
     rw (a .made) (omega (arith, length-append (field 1 l) (tab ∷ field 2 l)))
 
+-- .. and no good later one.
 pub iv-size : (l : Line) → ivLine l ≡ true → length (l .bytes) ≤ mostIv
 iv-size l e =
     let a = iv-is l e in

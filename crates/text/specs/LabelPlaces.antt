@@ -36,6 +36,7 @@ front-is (x ∷ xs) = go (upTo (length (x ∷ xs)) (indexOf newline (x ∷ xs)))
 abbrev pub customerPlace : ℕ
 customerPlace = 4
 
+-- The labels stand there, and within the input.
 pub record Stand (s customer vehicle : List ℕ) : Type 0 where
   pub customer-stands : take (length customer) (drop customerPlace s) ≡ customer
   pub vehicle-stands : take (length vehicle) (drop (customerPlace + length customer + 1) s) ≡ vehicle
@@ -55,6 +56,7 @@ stand c v t =
         let p : (c ++ (tab ∷ [])) ++ (v ++ t) ≡ c ++ (tab ∷ (v ++ t)) = append-assoc c (tab ∷ []) (v ++ t) in
         rw (n, ← p) (drop-at (c ++ (tab ∷ [])) (v ++ t) (length c + 1) (length-append c (tab ∷ [])))
 
+-- Those of a good input do.
 pub labels-stand : (s : List ℕ) → firstBad (lines s) ≡ 0 → Stand s (customerOf (lines s)) (vehicleOf (lines s))
 labels-stand s e =
     let f = front-is s in

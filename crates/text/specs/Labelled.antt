@@ -189,10 +189,12 @@ tellsOf x = decimal (atOf x) ∷ kindOf x ∷ mainOf x ∷ responseOf x ∷ []
 abbrev pub rowLine : List ℕ → List ℕ → Outcome → Line
 rowLine customer vehicle x = shut (joined tab (customer ∷ vehicle ∷ tellsOf x))
 
+-- the lines of the answers
 abbrev pub rowLines : List ℕ → List ℕ → List Outcome → List Line
 rowLines customer vehicle [] = []
 rowLines customer vehicle (x ∷ xs) = rowLine customer vehicle x ∷ rowLines customer vehicle xs
 
+-- the header, without its newline
 abbrev pub headerLine : Line
 headerLine = shut (joined tab (w-customer ∷ w-vehicle ∷ w-at ∷ w-kind ∷ w-main ∷ w-response ∷ []))
 
@@ -246,6 +248,7 @@ bad-lines s n =
 abbrev pub mostLines : ℕ
 mostLines = 8194
 
+-- No text has more.
 pub lines-few : (s : List ℕ) → length (lines (deskOf s)) ≤ mostLines
 lines-few s = go (eqb (firstBad (lines s)) 0) refl
   where

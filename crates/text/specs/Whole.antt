@@ -28,11 +28,12 @@ good-own (l ∷ ls) e = own-is l (go (ownLine l) refl e)
     go true p q = p
     go false p q = absurd (omega arith)
 
--- The text of a good input is its report, that of a bad one the refusal with its first bad line's number.
+-- The text of a good input is its report ..
 pub desk-good : (s : List ℕ) → firstBad (lines s) ≡ 0 → deskOf s ≡ report (customerOf (lines s)) (vehicleOf (lines s)) (recordingOf (lines s))
 unfolding deskOf
 desk-good s e = rw e
 
+-- .. and that of a bad one the refusal with its first bad line's number.
 pub desk-bad : (s : List ℕ) → ¬ (firstBad (lines s) ≡ 0) → deskOf s ≡ refusal (firstBad (lines s))
 unfolding deskOf
 desk-bad s n = rw (ne-eqb (firstBad (lines s)) 0 n)

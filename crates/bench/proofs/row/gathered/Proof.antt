@@ -50,20 +50,20 @@ use Rattle.contest.specs.declared.Station.{Station}
 use Rattle.contest.specs.Stations.{blank}
 use Rattle.contest.proofs.Station as T
 use Rattle.contest.proofs.Station.Laws as T′
-use Rattle.bench.specs.declared.rows.Bench.{Bench}
-use Rattle.bench.specs.Benches.{blankBench, withOf, benchOf}
+use Rattle.rows.specs.declared.Bench.{Bench}
+use Rattle.rows.specs.Benches.{blankBench, withOf, benchOf}
 use Rattle.bench.specs.Restoring.{gathered, gather-start, gather-more, gather-all}
-use Rattle.bench.proofs.Walk.{Places, envOf, Locals, allocs-all, frees-all, calls-plain, tests, scaled, upFrom, lies}
-use Rattle.bench.proofs.rows.Bench as B
-use Rattle.bench.proofs.rows.Bench.Laws as B′
-use Rattle.bench.proofs.rows.blank_bench as blank-bench
-use Rattle.bench.proofs.rows.blank_bench.Symbol as blank-bench-def
-use Rattle.bench.proofs.rows.blank_bench.Symbol.{name as #blank-bench}
-use Rattle.bench.proofs.rows.blank_bench.Met as blank-bench-thm
-use Rattle.bench.proofs.rows.with as with′
-use Rattle.bench.proofs.rows.with.Symbol as with-def
-use Rattle.bench.proofs.rows.with.Symbol.{name as #with}
-use Rattle.bench.proofs.rows.with.Met as with-thm
+use Rattle.laws.specs.Walk.{Places, envOf, Locals, allocs-all, frees-all, calls-plain, tests, scaled, upFrom, lies}
+use Rattle.rows.proofs.Bench as B
+use Rattle.rows.proofs.Bench.Laws as B′
+use Rattle.rows.proofs.blank_bench as blank-bench
+use Rattle.rows.proofs.blank_bench.Symbol as blank-bench-def
+use Rattle.rows.proofs.blank_bench.Symbol.{name as #blank-bench}
+use Rattle.rows.proofs.blank_bench.Met as blank-bench-thm
+use Rattle.rows.proofs.with as with′
+use Rattle.rows.proofs.with.Symbol as with-def
+use Rattle.rows.proofs.with.Symbol.{name as #with}
+use Rattle.rows.proofs.with.Met as with-thm
 use Rattle.bench.proofs.row.gathered.Key.{name as #gathered}
 use Rattle.bench.proofs.row.gathered as f
 use Rattle.bench.proofs.row.gathered.Statement as stated
@@ -249,5 +249,5 @@ gathered-spec 𝓤 H 𝓜 𝓖 𝓡 =
     entered 𝓤 H (tripleOf 𝓤 H (𝓖 .A) f.signature (f.spec 𝓤 H (𝓖 .A) (𝓜 .mem) (𝓡 .run)))
     (tables 𝓤 H 𝓜 𝓡 code.env .C) (tables 𝓤 H 𝓜 𝓡 code.env .Λ) #gathered code.function (code.unfolded 𝓤 H 𝓜 𝓡)
     (gathered-meets 𝓤 H (𝓖 .A) (givenOf 𝓤 H 𝓜 𝓖) (𝓜 .mem) (𝓡 .run) (tablesOf 𝓤 H 𝓜 (tables 𝓤 H 𝓜 𝓡 code.env))
-    (cited 𝓤 H (BlankBench 𝓤 H (𝓖 .A) (𝓜 .mem) (𝓡 .run)) 𝓜 𝓡 code.env #blank-bench blank-bench-def.routine code.calls-bench·rows·blank-bench (blank-bench-thm.met 𝓤 H 𝓜 𝓖 𝓡))
-    (cited 𝓤 H (With 𝓤 H (𝓖 .A) (𝓜 .mem) (𝓡 .run)) 𝓜 𝓡 code.env #with with-def.routine code.calls-bench·rows·with (with-thm.met 𝓤 H 𝓜 𝓖 𝓡)))
+    (cited 𝓤 H (BlankBench 𝓤 H (𝓖 .A) (𝓜 .mem) (𝓡 .run)) 𝓜 𝓡 code.env #blank-bench blank-bench-def.routine code.calls-rows·blank-bench (blank-bench-thm.met 𝓤 H 𝓜 𝓖 𝓡))
+    (cited 𝓤 H (With 𝓤 H (𝓖 .A) (𝓜 .mem) (𝓡 .run)) 𝓜 𝓡 code.env #with with-def.routine code.calls-rows·with (with-thm.met 𝓤 H 𝓜 𝓖 𝓡)))

@@ -1,8 +1,7 @@
 -- `bench::put_back` meets its contract: a walk of its code, by hand. The borrow of the row is opened before the loop and
 -- closed after it. Each turn stores one station more.
-use mathlib.Core.Path.{_≡_, refl, sym, _∙_, ap, subst}
+use mathlib.Core.Path.{_≡_, refl, sym, ap, subst}
 use mathlib.Core.WellFounded.{WellFounded, InvImage·wf}
-use mathlib.Core.Bool.{not}
 use mathlib.Core.Option.{none, some as full}
 use Prim.Native.Nat.{ℕ, _<_, _≤_, _^_, _+_, _-_, zero-le}
 use native.Mathlib.Nat.{lt-of-le-of-lt}
@@ -50,16 +49,16 @@ use Rattle.contest.specs.declared.Station.{Station}
 use Rattle.contest.specs.Stations.{blank}
 use Rattle.contest.proofs.Station as T
 use Rattle.contest.proofs.Station.Laws as T′
-use Rattle.bench.specs.declared.rows.Bench.{Bench}
-use Rattle.bench.specs.Scan.{filled, fill-start, fill-ahead, fill-more, fill-length, fill-all}
+use Rattle.rows.specs.declared.Bench.{Bench}
+use Rattle.rows.specs.Scan.{filled, fill-start, fill-ahead, fill-more, fill-length, fill-all}
 use Rattle.bench.specs.Restoring.{putBack, put-length}
-use Rattle.bench.proofs.Walk.{Places, envOf, Locals, allocs-all, frees-all, calls-plain, tests, scaled, upFrom, lies}
-use Rattle.bench.proofs.rows.Bench as B
-use Rattle.bench.proofs.rows.Bench.Laws as B′
-use Rattle.bench.proofs.rows.station_at as station-at
-use Rattle.bench.proofs.rows.station_at.Symbol as station-at-def
-use Rattle.bench.proofs.rows.station_at.Symbol.{name as #station-at}
-use Rattle.bench.proofs.rows.station_at.Met as station-at-thm
+use Rattle.laws.specs.Walk.{Places, envOf, Locals, allocs-all, frees-all, calls-plain, tests, scaled, upFrom, lies}
+use Rattle.rows.proofs.Bench as B
+use Rattle.rows.proofs.Bench.Laws as B′
+use Rattle.rows.proofs.station_at as station-at
+use Rattle.rows.proofs.station_at.Symbol as station-at-def
+use Rattle.rows.proofs.station_at.Symbol.{name as #station-at}
+use Rattle.rows.proofs.station_at.Met as station-at-thm
 use Rattle.bench.proofs.row.put_back.Key.{name as #put-back}
 use Rattle.bench.proofs.row.put_back as f
 use Rattle.bench.proofs.row.put_back.Statement as stated
@@ -249,4 +248,4 @@ put-back-spec 𝓤 H 𝓜 𝓖 𝓡 =
     entered 𝓤 H (tripleOf 𝓤 H (𝓖 .A) f.signature (f.spec 𝓤 H (𝓖 .A) (𝓜 .mem) (𝓡 .run)))
     (tables 𝓤 H 𝓜 𝓡 code.env .C) (tables 𝓤 H 𝓜 𝓡 code.env .Λ) #put-back code.function (code.unfolded 𝓤 H 𝓜 𝓡)
     (put-back-meets 𝓤 H (𝓖 .A) (givenOf 𝓤 H 𝓜 𝓖) (𝓜 .mem) (𝓡 .run) (tablesOf 𝓤 H 𝓜 (tables 𝓤 H 𝓜 𝓡 code.env))
-    (cited 𝓤 H (Call 𝓤 H (𝓖 .A) (𝓜 .mem) (𝓡 .run)) 𝓜 𝓡 code.env #station-at station-at-def.routine code.calls-bench·rows·station-at (station-at-thm.met 𝓤 H 𝓜 𝓖 𝓡)))
+    (cited 𝓤 H (Call 𝓤 H (𝓖 .A) (𝓜 .mem) (𝓡 .run)) 𝓜 𝓡 code.env #station-at station-at-def.routine code.calls-rows·station-at (station-at-thm.met 𝓤 H 𝓜 𝓖 𝓡)))

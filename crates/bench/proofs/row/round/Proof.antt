@@ -1,7 +1,7 @@
 -- `bench::round` meets its contract: a walk of its code, by hand. The row is passed on to `gathered` and is had again, the
 -- round is played on the bench with the words, which are given for good, and the row is given for good to `put_back`.
-use mathlib.Core.Path.{_≡_, refl, ap, subst}
-use mathlib.Core.Option.{none, some as full}
+use mathlib.Core.Path.{_≡_, refl, ap}
+use mathlib.Core.Option.{some as full}
 use Prim.Native.Nat.{ℕ}
 use mathlib.Core.List.{[], _∷_, List}
 use lib.ListN.{length}
@@ -41,28 +41,28 @@ use Rattle.contest.specs.declared.RoundAnswer.{RoundAnswer}
 use Rattle.contest.proofs.Station as T
 use Rattle.contest.proofs.RoundAnswer as N
 use Rattle.contest.proofs.RoundAnswer.Laws as N′
-use Rattle.bench.specs.declared.rows.Bench.{Bench}
-use Rattle.bench.specs.declared.playing.Played.{Played}
-use Rattle.bench.specs.Benches.{benchOf}
-use Rattle.bench.specs.Rounds.{PlayedBy}
+use Rattle.rows.specs.declared.Bench.{Bench}
+use Rattle.rounds.specs.declared.playing.Played.{Played}
+use Rattle.rows.specs.Benches.{benchOf}
+use Rattle.rounds.specs.Rounds.{PlayedBy}
 use Rattle.bench.specs.Restoring.{putBack, put-length}
 use Rattle.bench.specs.LentRound.{round-kept}
-use Rattle.bench.proofs.Walk.{Places, envOf, Locals, allocs-all, frees-all, upFrom, lies}
-use Rattle.bench.proofs.Passing.{bval, Had, Gathered, PutBack, calls-gathered, calls-put-back}
-use Rattle.bench.proofs.rows.Bench as B
-use Rattle.bench.proofs.rows.Bench.Laws as B′
-use Rattle.bench.proofs.playing.Played as P
-use Rattle.bench.proofs.playing.Played.Laws as P′
+use Rattle.laws.specs.Walk.{envOf, allocs-all, frees-all, upFrom, lies}
+use Rattle.bench.proofs.Passing.{bval, Gathered, PutBack, calls-gathered, calls-put-back}
+use Rattle.rows.proofs.Bench as B
+use Rattle.rows.proofs.Bench.Laws as B′
+use Rattle.rounds.proofs.playing.Played as P
+use Rattle.rounds.proofs.playing.Played.Laws as P′
 use Rattle.bench.proofs.row.gathered.Symbol as gathered-def
 use Rattle.bench.proofs.row.gathered.Symbol.{name as #gathered}
 use Rattle.bench.proofs.row.gathered.Met as gathered-thm
 use Rattle.bench.proofs.row.put_back.Symbol as put-back-def
 use Rattle.bench.proofs.row.put_back.Symbol.{name as #put-back}
 use Rattle.bench.proofs.row.put_back.Met as put-back-thm
-use Rattle.bench.proofs.playing.round_on as round-on
-use Rattle.bench.proofs.playing.round_on.Symbol as round-on-def
-use Rattle.bench.proofs.playing.round_on.Symbol.{name as #round-on}
-use Rattle.bench.proofs.playing.round_on.Met as round-on-thm
+use Rattle.rounds.proofs.round_on as round-on
+use Rattle.rounds.proofs.round_on.Symbol as round-on-def
+use Rattle.rounds.proofs.round_on.Symbol.{name as #round-on}
+use Rattle.rounds.proofs.round_on.Met as round-on-thm
 use Rattle.bench.proofs.row.round.Key.{name as #round}
 use Rattle.bench.proofs.row.round as f
 use Rattle.bench.proofs.row.round.Statement as stated
@@ -195,4 +195,4 @@ round-spec 𝓤 H 𝓜 𝓖 𝓡 =
     (round-meets 𝓤 H (𝓖 .A) (givenOf 𝓤 H 𝓜 𝓖) (𝓜 .mem) (𝓡 .run) (tablesOf 𝓤 H 𝓜 (tables 𝓤 H 𝓜 𝓡 code.env))
     (cited 𝓤 H (Gathered 𝓤 H (𝓖 .A) (𝓜 .mem) (𝓡 .run)) 𝓜 𝓡 code.env #gathered gathered-def.routine code.calls-bench·row·gathered (gathered-thm.met 𝓤 H 𝓜 𝓖 𝓡))
     (cited 𝓤 H (PutBack 𝓤 H (𝓖 .A) (𝓜 .mem) (𝓡 .run)) 𝓜 𝓡 code.env #put-back put-back-def.routine code.calls-bench·row·put-back (put-back-thm.met 𝓤 H 𝓜 𝓖 𝓡))
-    (cited 𝓤 H (Call 𝓤 H (𝓖 .A) (𝓜 .mem) (𝓡 .run)) 𝓜 𝓡 code.env #round-on round-on-def.routine code.calls-bench·playing·round-on (round-on-thm.met 𝓤 H 𝓜 𝓖 𝓡)))
+    (cited 𝓤 H (Call 𝓤 H (𝓖 .A) (𝓜 .mem) (𝓡 .run)) 𝓜 𝓡 code.env #round-on round-on-def.routine code.calls-rounds·round-on (round-on-thm.met 𝓤 H 𝓜 𝓖 𝓡)))

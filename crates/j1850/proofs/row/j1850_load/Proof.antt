@@ -36,7 +36,7 @@ use Rattle.contest.specs.Promises.{LoadPromise}
 use Rattle.contest.proofs.Station as T
 use Rattle.contest.proofs.Called as C
 use Rattle.contest.proofs.Called.Laws as C′
-use Rattle.bench.proofs.Walk.{envOf, allocs-all, frees-all, upFrom}
+use Rattle.laws.specs.Walk.{envOf, allocs-all, frees-all, upFrom}
 use Rattle.bench.proofs.load as inner
 use Rattle.bench.proofs.load.Symbol as inner-def
 use Rattle.bench.proofs.load.Symbol.{name as #inner}

@@ -36,7 +36,7 @@ use Rattle.contest.specs.Promises.{RoundPromise, said}
 use Rattle.contest.proofs.Station as T
 use Rattle.contest.proofs.RoundAnswer as C
 use Rattle.contest.proofs.RoundAnswer.Laws as C′
-use Rattle.bench.proofs.Walk.{envOf, allocs-all, frees-all, calls-plain, upFrom}
+use Rattle.laws.specs.Walk.{envOf, allocs-all, frees-all, calls-plain, upFrom}
 use Rattle.bench.proofs.round as inner
 use Rattle.bench.proofs.round.Symbol as inner-def
 use Rattle.bench.proofs.round.Symbol.{name as #inner}

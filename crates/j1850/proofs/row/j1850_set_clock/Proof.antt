@@ -39,7 +39,7 @@ use Rattle.contest.specs.Promises.{ClockPromise}
 use Rattle.contest.proofs.Station as T
 use Rattle.contest.proofs.Called as C
 use Rattle.contest.proofs.Called.Laws as C′
-use Rattle.bench.proofs.Walk.{envOf, allocs-all, frees-all, upFrom}
+use Rattle.laws.specs.Walk.{envOf, allocs-all, frees-all, upFrom}
 use Rattle.bench.proofs.set_clock as inner
 use Rattle.bench.proofs.set_clock.Symbol as inner-def
 use Rattle.bench.proofs.set_clock.Symbol.{name as #inner}

@@ -35,7 +35,7 @@ use Rattle.contest.specs.Promises.{WithdrawPromise}
 use Rattle.contest.proofs.Station as T
 use Rattle.contest.proofs.Called as C
 use Rattle.contest.proofs.Called.Laws as C′
-use Rattle.bench.proofs.Walk.{envOf, allocs-all, frees-all, upFrom}
+use Rattle.laws.specs.Walk.{envOf, allocs-all, frees-all, upFrom}
 use Rattle.bench.proofs.withdraw as inner
 use Rattle.bench.proofs.withdraw.Symbol as inner-def
 use Rattle.bench.proofs.withdraw.Symbol.{name as #inner}

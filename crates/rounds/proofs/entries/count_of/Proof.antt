@@ -1,0 +1,22 @@
+-- `rounds::count_of` meets its contract.
+use native.Mathlib.Omega.{arith}
+use Rattle.rounds.proofs.Whole.{whole}
+use Rattle.rounds.specs.EntryLaws.{count-none, count-some}
+use borrow.Author.Needs.{needs}
+use Rattle.rounds.proofs.entries.count_of.Statement.{statement}
+use Rattle.rounds.proofs.entries.count_of.Tie as tie
+
+returns : tie.Need-returns
+returns c = count-none _ (c .if1 .taken)
+
+add-result : tie.Need-add-result
+add-result c = search needs
+
+mul-result : tie.Need-mul-result
+mul-result c = search needs
+
+returns-2 : tie.Need-returns-2
+returns-2 c = let a = c .before .before .before in count-some _ (c .before .if1 .left) (omega (arith, whole (a .args .station) (a .good .0)))
+
+pub count-of-spec : {M : Type 1} → statement M
+count-of-spec = tie.close (tie.spec returns add-result mul-result returns-2)

@@ -1,0 +1,13 @@
+-- `rounds::turned_away` meets its contract.
+use mathlib.Core.Path.{refl}
+use Rattle.rounds.specs.Rounds.{idleAll}
+use borrow.Author.Needs.{needs}
+use Rattle.rounds.proofs.playing.turned_away.Statement.{statement}
+use Rattle.rounds.proofs.playing.turned_away.Tie as tie
+
+returns : tie.Need-returns
+unfolding idleAll
+returns c = refl
+
+pub turned-away-spec : {M : Type 1} → statement M
+turned-away-spec = tie.close (tie.spec returns)

@@ -1,0 +1,57 @@
+// A row by value, what is asked of it as a whole, and the calls at one of its places.
+ghost use mathlib.Core.Path.{_≡_};
+ghost use lib.ListN.{getD};
+ghost use Rattle.rows.specs.Benches.{blankBench, withOf};
+use contest::Station;
+
+mod calls;
+mod survey;
+
+pub use calls::Changed;
+pub use calls::empty;
+pub use calls::load_on;
+pub use calls::set_clock_on;
+pub use calls::withdraw_on;
+pub use survey::Survey;
+pub use survey::bad_size;
+pub use survey::greater;
+pub use survey::survey_all;
+
+const MOST_STATIONS: usize = 32;
+
+// A row of up to 32 stations, with blank ones past its end, and how many the row has. Where that is more than 32 the
+// rest of the row is not here: no call is taken on such a row.
+pub struct Bench {
+    pub at: [Station; 32],
+    pub count: usize,
+}
+
+// A bench of blank stations, for a row of so many.
+pub fn blank_bench(count: usize) -> Bench
+    ensures { λ r. ⌜ r ≡ blankBench count ⌝ }
+{
+    let station = survey::blank();
+    let at: [Station; 32] = [station; 32];
+    Bench { at, count }
+}
+
+// The bench with a station put at place i. A place past the 32nd is not kept.
+pub fn with(bench: Bench, i: usize, station: Station) -> Bench
+    ensures { λ r. ⌜ r ≡ withOf bench i station ⌝ }
+{
+    let mut next = bench;
+    if i < MOST_STATIONS {
+        next.at[i] = station;
+    }
+    next
+}
+
+// The station that the bench has at place i, or else the one that stands there.
+pub fn station_at(bench: Bench, i: usize, station: Station) -> Station
+    ensures { λ r. ⌜ r ≡ getD (bench .at) i station ⌝ }
+{
+    if i < MOST_STATIONS {
+        return bench.at[i];
+    }
+    station
+}
