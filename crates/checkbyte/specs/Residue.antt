@@ -1,5 +1,5 @@
 -- Over any bytes and their check byte together the register ends at 0xC4, and over no others.
-use mathlib.Core.Path.{_≡_, refl, sym, ap, _∙_}
+use mathlib.Core.Path.{_≡_, refl, ap, _∙_}
 use mathlib.Core.Bool.{Bool, true}
 use mathlib.Core.List.{List, [], _∷_, _++_}
 use Prim.Native.Nat.{ℕ, _+_, _*_, _-_, _/_, _%_, _≤_, _<_}
@@ -11,7 +11,7 @@ use lib.Dec.{eqb, eqb→eq}
 use lib.ListN.{length, getD, drop}
 use lib.Seq.{drop-cons, drop-length}
 use borrow.Author.Tests.{eq-eqb}
-use Rattle.laws.specs.Each.{below, each}
+use Rattle.laws.specs.Each.{each}
 use Rattle.checkbyte.specs.Register.{shift, eightShifts, stepOf, registerFrom, registerOf, checkOf, withCheck, endsRight, allOnes, residue, polynomial}
 
 -- A shift of a byte, with no number in it that leaves a byte's range on the way.

@@ -3,7 +3,7 @@
 mod help;
 
 ghost use mathlib.Core.Path.{_≡_};
-ghost use Prim.Native.Nat.{_+_, _≤_};
+ghost use Prim.Native.Nat.{_+_};
 ghost use lib.ListN.{length};
 ghost use Rattle.text.specs.Enough.{mostInput};
 ghost use Rattle.text.specs.Input.{mostWidths};

@@ -1,15 +1,15 @@
 -- How the tests on bytes, labels and digits decide their definitions: a law for each way out of a function.
 use Prim.Native.Nat.{ℕ, suc, _+_, _-_, _*_, _≤_, _<_}
 use mathlib.Core.Path.{_≡_, refl, sym, _∙_}
-use mathlib.Core.Bool.{Bool, true, false, not, _&&_, _||_, and-false}
+use mathlib.Core.Bool.{Bool, true, false, not, _&&_, and-false}
 use mathlib.Core.List.{List, [], _∷_}
 use native.Mathlib.Numerals.{add-one}
 use native.Mathlib.Omega.{arith}
-use lib.Dec.{leb, eqb, ltb}
+use lib.Dec.{eqb, ltb}
 use lib.ListN.{length, getD, drop, drop-of-length-le}
 use lib.Seq.{drop-cons}
 use borrow.Author.Tests.{lt-ltb, le-ltb, le-leb, lt-leb, eq-eqb, ne-eqb, not-true, not-false}
-use Rattle.text.specs.Grammar.{among, every, same, labelByte, mostLabel, isLabel, digit, spells, spelt, pastU32, isWidth}
+use Rattle.text.specs.Grammar.{among, every, same, labelByte, mostLabel, isLabel, digit, spells, pastU32, isWidth}
 use Rattle.field.specs.declared.Width.{Width}
 use Rattle.field.specs.declared.Width.the-variants.{Of, Not}
 use Rattle.field.specs.Widths.{widthBy, numberOf, widthOf}

@@ -8,7 +8,6 @@ ghost use lib.Seq.{sets};
 ghost use lib.Dec.{eqb, ltb, leb};
 ghost use mathlib.Core.Bool.{_||_};
 ghost use Rattle.checkbyte.specs.Register.{checkFrom};
-ghost use Rattle.symbol.specs.Clocks.{goodOf};
 ghost use Rattle.framing.specs.Bits.{odd, bitsOfByte};
 ghost use Rattle.symbol.specs.Sending.{bitWidth};
 ghost use Rattle.framing.specs.Writing.{bitWidths, byteWidths, responseWidths, frameWords, badMessage, WritePromise};

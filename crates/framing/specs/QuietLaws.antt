@@ -1,7 +1,6 @@
 -- When reading is quiet and when it is unfinished: rows 1 and 2 of the table "What reading answers", each exactly when.
 use Prim.Native.Nat.{ℕ, _≤_}
 use mathlib.Core.Path.{_≡_, refl, sym, ap, _∙_}
-use mathlib.Core.Bool.{true, false}
 use mathlib.Core.List.{List}
 use mathlib.Core.Logic.{_↔_}
 use native.Mathlib.Omega.{arith}

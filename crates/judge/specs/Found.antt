@@ -1,5 +1,5 @@
 -- What the steps of judging find, told by the definitions of the room below.
-use Prim.Native.Nat.{ℕ, _+_, _≤_}
+use Prim.Native.Nat.{ℕ, _≤_}
 use mathlib.Core.Path.{_≡_}
 use mathlib.Core.Bool.{Bool, true, false, _&&_}
 use mathlib.Core.List.{List, []}
@@ -9,7 +9,7 @@ use lib.Seq.{sets}
 use Rattle.text.specs.declared.Labels.{Labels}
 use Rattle.text.specs.declared.Judged.{Judged}
 use Rattle.text.specs.Grammar.{fields, spelt, isLabel}
-use Rattle.text.specs.Input.{Line, shut, lines, field, ownLine, ivLine, mostWidths, badFrom, widthsFrom}
+use Rattle.text.specs.Input.{shut, lines, field, ownLine, ivLine, mostWidths, badFrom, widthsFrom}
 use Rattle.text.specs.declared.Judged.the-variants.{Good, Bad}
 use Rattle.field.specs.declared.Width.{Width}
 use Rattle.field.specs.Widths.{widthBy}

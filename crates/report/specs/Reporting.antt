@@ -7,7 +7,7 @@ use Rattle.framing.specs.Faults.{mostBytes}
 use Rattle.framing.specs.Reading.{Outcome, good, quiet, unfinished, faulty, refused, reading}
 use Rattle.framing.specs.ReadingOn.{answersIn}
 use Rattle.text.specs.declared.Labels.{Labels}
-use Rattle.text.specs.Report.{rowOf, rowsOf, report}
+use Rattle.text.specs.Report.{rowOf, rowsOf}
 use Rattle.text.specs.LabelPlaces.{customerPlace}
 use Rattle.report.specs.declared.rows.Next.{Next}
 use Rattle.report.specs.declared.rows.Next.the-variants.{At, Nowhere}

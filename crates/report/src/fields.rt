@@ -1,7 +1,6 @@
 // What the fields of a line are printed by. Each function lays its text from a place on and answers the place behind it.
 ghost use mathlib.Core.Path.{_≡_};
-ghost use Prim.Native.Nat.{_+_, _*_, _/_, _%_, _≤_, _<_};
-ghost use mathlib.Core.List.{[], _∷_, _++_};
+ghost use Prim.Native.Nat.{_+_, _/_, _%_, _≤_, _<_};
 ghost use lib.ListN.{length};
 ghost use Rattle.text.specs.Numerals.{decimal, hexDigit, hex};
 ghost use Rattle.framing.specs.Answers.{faultNumber};

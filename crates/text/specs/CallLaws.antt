@@ -1,17 +1,16 @@
 -- The desk's calls are settled: each promise leaves one answer and one state of everything lent, and each refusal comes exactly
 -- when its rule holds.
-use Prim.Native.Nat.{ℕ, _≤_, _<_}
+use Prim.Native.Nat.{ℕ, _<_}
 use mathlib.Core.Path.{_≡_, refl, sym, ap, _∙_}
 use mathlib.Core.Bool.{Bool, true, false, cond, _||_}
-use mathlib.Core.List.{List, [], _∷_, _++_}
+use mathlib.Core.List.{List}
 use mathlib.Core.Logic.{_↔_, _⊎_, inl, inr}
 use native.Mathlib.Omega.{arith}
 use lib.Dec.{eqb, ltb}
 use lib.ListN.{length}
-use borrow.Author.Tests.{lt-ltb, le-ltb, ltb-true, ltb-false, eqb-true, eqb-false, ne-eqb}
+use borrow.Author.Tests.{lt-ltb, ltb-true, ltb-false, eqb-true, eqb-false}
 use Rattle.laws.specs.Settled.{settled}
-use Rattle.laws.specs.Tests.{never, upTo, or-right}
-use Rattle.text.specs.declared.Labels.{Labels}
+use Rattle.laws.specs.Tests.{never, or-right}
 use Rattle.text.specs.declared.Judged.{Judged}
 use Rattle.text.specs.declared.Judged.the-variants.{Good, Bad, FewLentWords}
 use Rattle.text.specs.declared.Answered.{Answered}
@@ -19,7 +18,7 @@ use Rattle.text.specs.declared.Answered.the-variants.{Report, Refused, F
 use Rattle.framing.specs.Refusals.{TurnedAway}
 use Rattle.text.specs.Input.{lines, firstBad, mostWidths, customerOf, vehicleOf, recordingOf}
 use Rattle.text.specs.Report.{deskOf}
-use Rattle.text.specs.Calls.{Verdict, good, bad, few, verdictBy, judging, Tale, judgedTold, verdictTells, laidOn, laidWords, JudgePromise, mostText, Page, reported, turnedDown, short, pageBy, lentShort, answering, Told, answeredTold, pageTells, laidText, DeskPromise}
+use Rattle.text.specs.Calls.{good, bad, few, judging, Tale, judgedTold, verdictTells, laidOn, JudgePromise, mostText, reported, turnedDown, short, lentShort, answering, Told, answeredTold, pageTells, DeskPromise}
 
 -- ## One answer
 

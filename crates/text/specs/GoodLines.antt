@@ -1,7 +1,7 @@
 -- What a good line is made of, and how long it can be.
 use Prim.Native.Nat.{ℕ, suc, _+_, _-_, _*_, _^_, _≤_, _<_}
 use mathlib.Core.Path.{_≡_, refl, sym, ap, _∙_}
-use mathlib.Core.Bool.{Bool, true, false, not, _&&_, _||_}
+use mathlib.Core.Bool.{true, false, _&&_}
 use mathlib.Core.List.{List, [], _∷_, _++_}
 use native.Mathlib.Omega.{arith}
 use native.Mathlib.Nat.{pow-suc, pow-le-pow-right, add-zero}
@@ -10,7 +10,7 @@ use lib.ListN.{length, getD, length-append}
 use borrow.Author.Tests.{eqb-true, eqb-false, leb-true, ltb-true, not-true, ne-eqb}
 use mathlib.Core.Logic.{_⊎_, inl, inr}
 use Rattle.laws.specs.Tests.{never, both, upTo}
-use Rattle.text.specs.Grammar.{tab, pieces, fields, every, isLabel, labelByte, mostLabel, digit, spells, spelt, pastU32, noLeadingZero, isWidth}
+use Rattle.text.specs.Grammar.{tab, fields, every, isLabel, labelByte, mostLabel, digit, spells, spelt, pastU32, noLeadingZero, isWidth}
 use Rattle.text.specs.Input.{Line, field, own, iv, ownLine, ivLine}
 use Rattle.text.specs.PieceLaws.{joined, joined-pieces, same-is}
 

@@ -1,7 +1,6 @@
 -- Where the labels of a good input stand in its bytes: the customer's from byte 4 on, the vehicle's behind it and a tab.
 use Prim.Native.Nat.{ℕ, suc, _+_, _-_, _≤_, _<_}
 use mathlib.Core.Path.{_≡_, refl, sym, ap, _∙_}
-use mathlib.Core.Bool.{Bool, true, false}
 use mathlib.Core.List.{List, [], _∷_, _++_, append-assoc, append-nil}
 use mathlib.Core.Logic.{_⊎_, inl, inr}
 use native.Mathlib.Omega.{arith}
@@ -10,7 +9,7 @@ use lib.Seq.{take-at, drop-at}
 use Rattle.bytes.specs.Bytes.{indexOf}
 use Rattle.laws.specs.Tests.{upTo}
 use Rattle.text.specs.Grammar.{newline, tab}
-use Rattle.text.specs.Input.{Line, lines, own, firstBad, firstLine, customerOf, vehicleOf}
+use Rattle.text.specs.Input.{lines, own, firstBad, firstLine, customerOf, vehicleOf}
 use Rattle.text.specs.PieceLaws.{index-le, lines-first, lines-none}
 use Rattle.text.specs.Whole.{good-own}
 

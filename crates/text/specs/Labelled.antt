@@ -12,12 +12,12 @@ use Rattle.laws.specs.Tests.{never, both}
 use Rattle.framing.specs.declared.Response.{Response}
 use Rattle.framing.specs.declared.Response.the-variants.{Without, Plain, Checked}
 use Rattle.framing.specs.Reading.{Outcome, good, quiet, unfinished, faulty, refused}
-use Rattle.text.specs.Grammar.{newline, tab, longer, pieces, fields, every, labelByte, mostLabel, among, isLabel}
-use Rattle.text.specs.Input.{Line, shut, onto, lines, firstBad, customerOf, vehicleOf, recordingOf, mostWidths}
+use Rattle.text.specs.Grammar.{newline, tab, pieces, fields, every, labelByte, mostLabel, among, isLabel}
+use Rattle.text.specs.Input.{Line, shut, lines, firstBad, customerOf, vehicleOf, recordingOf}
 use Rattle.text.specs.Numerals.{numeral, decimalIn, decimal, hexDigit, hex}
-use Rattle.text.specs.Report.{w-customer, w-vehicle, w-at, w-kind, w-main, w-response, w-refused, w-fault, w-plain, w-checked, lineOf, header, refusal, atOf, kindOf, mainOf, marked, responseOf, rowOf, rowsOf, answers, report, deskOf}
+use Rattle.text.specs.Report.{w-customer, w-vehicle, w-at, w-kind, w-main, w-response, w-refused, lineOf, refusal, atOf, kindOf, mainOf, marked, responseOf, rowOf, rowsOf, answers, report, deskOf}
 use Rattle.text.specs.PieceLaws.{joined}
-use Rattle.text.specs.GoodLines.{OwnIs, label-size}
+use Rattle.text.specs.GoodLines.{label-size}
 use Rattle.text.specs.Bounds.{answers-few}
 use Rattle.text.specs.Whole.{good-own, desk-good, desk-bad, recording-few}
 

@@ -1,7 +1,7 @@
 -- Laws of pieces and of lines: where the first one ends, that every text is its pieces put together again, and what it takes
 -- for a text to have one piece only.
 use Prim.Native.Nat.{ℕ, suc, _≤_, _<_}
-use mathlib.Core.Path.{_≡_, refl, sym, ap, _∙_}
+use mathlib.Core.Path.{_≡_, refl, _∙_}
 use mathlib.Core.Bool.{Bool, true, false, cond, _&&_, and-false}
 use mathlib.Core.List.{List, [], _∷_, _++_}
 use native.Mathlib.Omega.{arith}
@@ -11,7 +11,7 @@ use borrow.Author.Tests.{eqb-true}
 use Rattle.bytes.specs.Bytes.{indexOf, indexAfter}
 use Rattle.laws.specs.Tests.{never}
 use Rattle.text.specs.Grammar.{newline, longer, pieces, every, same}
-use Rattle.text.specs.Input.{Line, shut, unshut, onto, lines}
+use Rattle.text.specs.Input.{shut, unshut, onto, lines}
 
 -- ## The first piece
 

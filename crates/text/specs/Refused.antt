@@ -1,14 +1,14 @@
 -- Which texts are refusals: a text is the refusal at a line exactly where that line is the first bad one.
-use Prim.Native.Nat.{ℕ, zero, suc, _+_, _-_, _*_, _/_, _%_, _^_, _≤_, _<_}
+use Prim.Native.Nat.{ℕ, _+_, _-_, _*_, _≤_, _<_}
 use mathlib.Core.Path.{_≡_, refl, sym, ap, _∙_}
 use mathlib.Core.Bool.{Bool, true, false}
-use mathlib.Core.List.{List, [], _∷_, _++_}
+use mathlib.Core.List.{List}
 use mathlib.Core.Logic.{_↔_}
 use native.Mathlib.Omega.{arith}
 use lib.Dec.{eqb}
 use lib.ListN.{getD, drop}
 use borrow.Author.Tests.{eqb-true, eqb-false}
-use Rattle.text.specs.Grammar.{newline, spells, spelt}
+use Rattle.text.specs.Grammar.{newline, spelt}
 use Rattle.text.specs.Input.{lines, mostWidths, firstBad, customerOf, vehicleOf, recordingOf}
 use Rattle.text.specs.Numerals.{decimal}
 use Rattle.text.specs.NumeralLaws.{spells-last, spelt-decimal}

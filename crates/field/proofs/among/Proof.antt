@@ -1,7 +1,5 @@
 -- `field::among` meets its contract: the lower bound is tested first, then the upper.
 use borrow.Author.Tests.{lt-leb, le-leb}
-use native.Mathlib.Omega.{arith}
-use borrow.Author.Needs.{needs}
 use Rattle.field.proofs.among.Statement.{statement}
 use Rattle.field.proofs.among.Tie as tie
 

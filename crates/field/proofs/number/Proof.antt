@@ -3,7 +3,7 @@ use Rattle.field.proofs.Leaves.{numberFrom, number-start, number-low, n
 use Rattle.text.specs.Grammar.{pastU32}
 use Rattle.field.specs.Widths.{numberOf}
 use Prim.Native.Nat.{_≤_, _<_, _-_}
-use mathlib.Core.Path.{_≡_, refl}
+use mathlib.Core.Path.{_≡_}
 use lib.ListN.{length, drop}
 use borrow.Author.Needs.{needs}
 use Rattle.field.proofs.number.Statement.{statement}
