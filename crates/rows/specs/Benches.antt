@@ -6,9 +6,6 @@ use Rattle.contest.specs.declared.Station.{Station}
 use Rattle.contest.specs.Stations.{mostStations, blank}
 use Rattle.rows.specs.declared.Bench.{Bench}
 
-unfoldable pub blankBench : ℕ → Bench
-blankBench n = record { at = replicate mostStations blank; count = n }
-
 unfoldable pub withOf : Bench → ℕ → Station → Bench
 withOf b i s = record { at = set (b .at) i s; count = b .count }
 
