@@ -1,5 +1,5 @@
 -- A lent row becomes a bench, and a bench goes back into the lent row.
-use Prim.Native.Nat.{ℕ, zero, suc, _+_, _-_, _≤_, _<_}
+use Prim.Native.Nat.{ℕ, zero, suc, _+_, _-_, _≤_, _<_, min}
 use mathlib.Core.Path.{_≡_, refl, sym, ap, _∙_}
 use mathlib.Core.Logic.{_⊎_, inl, inr}
 use mathlib.Core.List.{List, [], _∷_, _++_, map}
@@ -12,13 +12,13 @@ use Rattle.contest.specs.declared.Station.{Station}
 use Rattle.contest.specs.Stations.{mostStations, blank}
 use Rattle.rows.specs.declared.Bench.{Bench}
 use Rattle.rows.specs.Scan.{from, from-same, from-length, from-list, getD-any}
-use Rattle.rows.specs.Benches.{blankBench, withOf, benchOf}
+use Rattle.rows.specs.Benches.{benchOf}
 
 -- ## Gathering
 
--- the bench of a row of which i stations are gathered
-unfoldable pub gathered : List Station → ℕ → Bench
-gathered row i = record { at = take mostStations (take i row ++ replicate mostStations blank); count = length row }
+-- the places of a bench, of which i are filled
+unfoldable pub gathered : List Station → ℕ → List Station
+gathered row i = take mostStations (take i row ++ replicate mostStations blank)
 
 blanks : (n m : ℕ) → n ≤ m → take n (replicate m blank) ≡ replicate n blank
 blanks zero m k = refl
@@ -32,14 +32,14 @@ enough (s ∷ l) zero m k g h = refl
 enough (s ∷ l) (suc n) m k g h = ap (λ (r : List Station). s ∷ r) (enough l n m k (omega arith) (omega arith))
 
 -- none yet
-pub gather-start : (row : List Station) → blankBench (length row) ≡ gathered row 0
-unfolding blankBench gathered
+pub gather-start : (row : List Station) → replicate mostStations blank ≡ gathered row 0
+unfolding gathered
 gather-start row = refl
 
 -- one station more
-pub gather-more : (row : List Station) (i : ℕ) (d : Station) → i < length row → withOf (gathered row i) i (getD row i d) ≡ gathered row (i + 1)
-unfolding withOf gathered
-gather-more row i d h = ap (λ (l : List Station). record { at = l; count = length row }) (go (upTo mostStations i))
+pub gather-more : (row : List Station) (i : ℕ) (d : Station) → i < length row → set (gathered row i) i (getD row i d) ≡ gathered row (i + 1)
+unfolding gathered
+gather-more row i d h = go (upTo mostStations i)
   where
     p : List Station
     p = take i row
@@ -63,10 +63,25 @@ gather-more row i d h = ap (λ (l : List Station). record { at = l; count = leng
         ∙ enough (p ++ (getD row i d ∷ [])) mostStations 31 mostStations (omega (arith, n, length-append p (getD row i d ∷ []))) (omega arith)
         ∙ ap (λ (l : List Station). take mostStations (l ++ replicate mostStations blank)) (sym next)
 
--- all of them
-pub gather-all : (row : List Station) → gathered row (length row) ≡ benchOf row
+-- all that a bench keeps
+pub gather-all : (row : List Station) (i : ℕ) → i ≡ min (length row) mostStations → (let b : Bench = record { at = gathered row i; count = length row } in b) ≡ benchOf row
 unfolding gathered benchOf
-gather-all row = rw (take-length row)
+gather-all row i e = ap (λ (l : List Station). record { at = l; count = length row }) (go (upTo mostStations (length row)))
+  where
+    go : (mostStations ≤ length row) ⊎ (length row < mostStations) → take mostStations (take i row ++ replicate mostStations blank) ≡ take mostStations (row ++ replicate mostStations blank)
+    go (inl k) =
+        let f : i ≡ mostStations = omega arith in
+        ap (λ (n : ℕ). take mostStations (take n row ++ replicate mostStations blank)) f
+        ∙ take-append-le mostStations (take mostStations row) (replicate mostStations blank) (omega (arith, length-take-le mostStations row k))
+        ∙ take-all mostStations (take mostStations row) (omega (arith, length-take-le mostStations row k))
+        ∙ sym (take-append-le mostStations row (replicate mostStations blank) k)
+    go (inr k) =
+        let f : i ≡ length row = omega arith in
+        ap (λ (l : List Station). take mostStations (l ++ replicate mostStations blank)) (ap (λ (n : ℕ). take n row) f ∙ take-length row)
+
+pub gather-length : (row : List Station) (i : ℕ) → length (gathered row i) ≡ mostStations
+unfolding gathered
+gather-length row i = omega (arith, length-take mostStations (take i row ++ replicate mostStations blank), length-append (take i row) (replicate mostStations blank), length-replicate mostStations blank)
 
 -- the places of a bench
 pub bench-places : (row : List Station) → length (benchOf row .at) ≡ mostStations

@@ -10,18 +10,19 @@ use contest::Station;
 use rows::Bench;
 use symbol::Clock;
 
-// The bench of a row.
+// The bench of a row: its first 32 stations, and how many it has.
 pub fn gathered(row: &[Station]) -> Bench
     ensures { λ r. ⌜ r ≡ benchOf (now (row .entry)) ⌝ }
 {
-    let mut bench = rows::blank_bench(row.len());
+    let mut at = rows::blanks();
+    let n = rows::kept(row.len());
     let mut i = 0;
-    while i < row.len() {
+    while i < n {
         let station = row[i];
-        bench = rows::with(bench, i, station);
+        at[i] = station;
         i += 1;
     }
-    bench
+    rows::bench_of(at, row.len())
 }
 
 // The row with the stations of a bench in its places.

@@ -1,5 +1,6 @@
 -- What proofs that walk a function by hand share.
 --     Locals E os      the cells of a function's locals, local 0 first: each holds a value, or is room
+--     Opened E k os    the same while the cell of local k is held otherwise, as the cells of an array's elements
 --     allocs-all       the locals are allocated, and stand in the order of the source
 --     frees-all        they are freed, whatever they hold
 --     calls-known      a call of a function of plain data, whose contract says something of what it answers
@@ -51,6 +52,14 @@ module _ {M : Type 1} {𝓤 : URA M} where
   Locals (e ∷ E) [] Γ = ‵ (froom (e .0) (e .1) 0) ∷ ‵ (fdies (e .0) (e .1)) ∷ Locals E [] Γ
   Locals (e ∷ E) (none ∷ os) Γ = ‵ (froom (e .0) (e .1) 0) ∷ ‵ (fdies (e .0) (e .1)) ∷ Locals E os Γ
   Locals (e ∷ E) (full v ∷ os) Γ = ‵ (fat fullShare (e .0) (e .1) 0 v) ∷ ‵ (fdies (e .0) (e .1)) ∷ Locals E os Γ
+
+  -- the same while the cell of local k is held otherwise
+  abbrev pub Opened : List (Ty × ℕ) → ℕ → List (Option Val) → List (Item 𝓤) → List (Item 𝓤)
+  Opened [] k os Γ = Γ
+  Opened (e ∷ E) k [] Γ = Locals (e ∷ E) [] Γ
+  Opened (e ∷ E) zero (o ∷ os) Γ = ‵ (fdies (e .0) (e .1)) ∷ Locals E os Γ
+  Opened (e ∷ E) (suc k) (none ∷ os) Γ = ‵ (froom (e .0) (e .1) 0) ∷ ‵ (fdies (e .0) (e .1)) ∷ Opened E k os Γ
+  Opened (e ∷ E) (suc k) (full v ∷ os) Γ = ‵ (fat fullShare (e .0) (e .1) 0 v) ∷ ‵ (fdies (e .0) (e .1)) ∷ Opened E k os Γ
 
 module _ {M : Type 1} (𝓤 : URA M) (H : Heap 𝓤) (A : Atoms 𝓤) (W : Given 𝓤 H A) where
   under : (k : Item 𝓤) (Γ Δ : List (Item 𝓤)) → ent 𝓤 (⋆ 𝓤 H A Γ) (⋆ 𝓤 H A Δ) → ent 𝓤 (⋆ 𝓤 H A (k ∷ Γ)) (⋆ 𝓤 H A (k ∷ Δ))

@@ -1,7 +1,9 @@
 // A row by value, what is asked of it as a whole, and the calls at one of its places.
 ghost use mathlib.Core.Path.{_≡_};
-ghost use lib.ListN.{getD};
-ghost use Rattle.rows.specs.Benches.{blankBench, withOf};
+ghost use Prim.Native.Nat.{min};
+ghost use lib.ListN.{getD, replicate};
+ghost use Rattle.contest.specs.Stations.{mostStations, blank};
+ghost use Rattle.rows.specs.Benches.{withOf};
 use contest::Station;
 
 mod calls;
@@ -26,17 +28,35 @@ pub struct Bench {
     pub count: usize,
 }
 
-// A bench of blank stations, for a row of so many.
-pub fn blank_bench(count: usize) -> Bench
-    ensures { λ r. ⌜ r ≡ blankBench count ⌝ }
+// 32 blank stations.
+pub fn blanks() -> [Station; 32]
+    ensures { λ r. ⌜ r ≡ replicate mostStations blank ⌝ }
 {
     let station = survey::blank();
     let at: [Station; 32] = [station; 32];
+    at
+}
+
+// How many stations of a row of so many a bench keeps.
+pub fn kept(count: usize) -> usize
+    ensures { λ r. ⌜ r ≡ min count mostStations ⌝ }
+{
+    if count < MOST_STATIONS {
+        count
+    } else {
+        MOST_STATIONS
+    }
+}
+
+// The bench of these stations, for a row of so many.
+pub fn bench_of(at: [Station; 32], count: usize) -> Bench
+    ensures { λ r. ⌜ r ≡ record { at = at; count = count } ⌝ }
+{
     Bench { at, count }
 }
 
 // The bench with a station put at place i. A place past the 32nd is not kept.
-pub fn with(bench: Bench, i: usize, station: Station) -> Bench
+fn with(bench: Bench, i: usize, station: Station) -> Bench
     ensures { λ r. ⌜ r ≡ withOf bench i station ⌝ }
 {
     let mut next = bench;
