@@ -16,6 +16,10 @@
 
 enum { PAGE = 4096, ARENA = 128 * PAGE, SLACK = 512, ARENAS = 3, SAID = 80, PATTERN = 0xA5 };
 
+/* the layout that the library was built with */
+_Static_assert(sizeof(j1850_station) == 32 && offsetof(j1850_station, bytes) == 12 && offsetof(j1850_station, length) == 24, "a station");
+_Static_assert(sizeof(j1850_verdict) == 16 && offsetof(j1850_round_answer, verdicts) == 16 && sizeof(j1850_round_answer) == 528, "a round's answer");
+
 unsigned long tally[CALLS][64];
 
 static uint8_t *arenas[ARENAS]; /* each between two pages that cannot be touched */
@@ -121,13 +125,24 @@ static void *lend(int i, slice s, bool high) {
     return at;
 }
 
+/* Whether lent memory holds the same. A station has a byte of padding behind its bytes, which is no part of its value. */
+static bool same(slice s, const uint8_t *at, const uint8_t *wanted) {
+    size_t bytes = bytes_of(s);
+    if (s.size != sizeof(j1850_station))
+        return bytes == 0 || memcmp(at, wanted, bytes) == 0;
+    for (size_t k = 0; k < bytes; k++)
+        if (k % sizeof(j1850_station) != 23 && at[k] != wanted[k])
+            return false;
+    return true;
+}
+
 static void take_back(int i, slice s, bool high, const void *at, const void *wanted) {
     size_t bytes = bytes_of(s);
     const uint8_t *free_bytes = beside(i, bytes, high);
     for (int k = 0; k < SLACK; k++)
         if (free_bytes[k] != PATTERN)
             fail("a call wrote beside what is lent to it");
-    if (bytes != 0 && memcmp(at, wanted, bytes) != 0)
+    if (!same(s, at, wanted))
         fail("lent memory is left otherwise at another place");
     if (!s.writable && mprotect(arenas[i], ARENA, PROT_READ | PROT_WRITE) != 0)
         fail("a page does not become writable");

@@ -31,6 +31,7 @@ enough [] n m k g h = blanks n m (omega arith) ∙ sym (blanks n k (omega arith)
 enough (s ∷ l) zero m k g h = refl
 enough (s ∷ l) (suc n) m k g h = ap (λ (r : List Station). s ∷ r) (enough l n m k (omega arith) (omega arith))
 
+-- none yet
 pub gather-start : (row : List Station) → blankBench (length row) ≡ gathered row 0
 unfolding blankBench gathered
 gather-start row = refl
@@ -62,6 +63,7 @@ gather-more row i d h = ap (λ (l : List Station). record { at = l; count = leng
         ∙ enough (p ++ (getD row i d ∷ [])) mostStations 31 mostStations (omega (arith, n, length-append p (getD row i d ∷ []))) (omega arith)
         ∙ ap (λ (l : List Station). take mostStations (l ++ replicate mostStations blank)) (sym next)
 
+-- all of them
 pub gather-all : (row : List Station) → gathered row (length row) ≡ benchOf row
 unfolding gathered benchOf
 gather-all row = rw (take-length row)
@@ -85,6 +87,7 @@ padded row h =
 unfoldable pub putBack : Bench → List Station → List Station
 putBack b row = from (λ (i : ℕ). getD (b .at) i (getD row i blank)) 0 (length row)
 
+-- As many stations as there were.
 pub put-length : (b : Bench) (row : List Station) → length (putBack b row) ≡ length row
 unfolding putBack
 put-length b row = from-length (λ (i : ℕ). getD (b .at) i (getD row i blank)) 0 (length row)

@@ -33,22 +33,25 @@ symbolNumber Ifs = 6
 symbolNumber Break = 7
 symbolNumber Stuck = 8
 
--- calls that cannot refuse: the number 0, and the check byte, the symbol's number, or whether the clock is good
+-- calls that cannot refuse: the number 0, and the check byte ..
 abbrev pub checkAs : ℕ → Check
 checkAs b = record { number = 0; check = b }
 
+-- .. the symbol's number ..
 abbrev pub classAs : Symbol → Class
 classAs s = record { number = 0; symbol = symbolNumber s }
 
+-- .. whether the clock is good
 abbrev pub timedAs : Bool → Timed
 timedAs g = record { number = 0; good = g }
 
--- the number of each kind of response, and the kind that a number asks for
+-- the number of each kind of response
 abbrev pub kindNumber : Response → ℕ
 kindNumber Without = 0
 kindNumber Plain = 1
 kindNumber Checked = 2
 
+-- the kind that a number asks for
 abbrev pub kindOf : ℕ → Response
 kindOf k = cond (eqb k 0) Without (cond (eqb k 1) Plain Checked)
 
@@ -61,10 +64,12 @@ tracedAs (tracing.turnedAway k) = record { number = k; count = 0 }
 abbrev pub noSuchKind : Clock → writing.Sheet
 noSuchKind c = cond (not (goodOf c)) (writing.turnedAway 36) (writing.turnedAway 37)
 
+-- what writing comes to, a kind that there is not included
 unfoldable pub sheetOf : Clock → List ℕ → ℕ → List ℕ → ℕ → writing.Sheet
 sheetOf c main kind rs lent =
     cond (ltb 2 kind) (noSuchKind c) (writing.writing c main (kindOf kind) rs lent)
 
+-- the writer's number and count
 abbrev pub countedAs : writing.Count → Counted
 countedAs n = record { number = n .number; count = n .count }
 

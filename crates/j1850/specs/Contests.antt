@@ -20,6 +20,7 @@ faredAs Idle = record { fared = 0; bit = 0 }
 faredAs Through = record { fared = 1; bit = 0 }
 faredAs (Lost bit) = record { fared = 2; bit = bit }
 
+-- the same of a verdict
 abbrev pub verdictAs : contest.Verdict → Verdict
 verdictAs v = faredAs (v .fared)
 

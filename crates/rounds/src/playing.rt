@@ -63,13 +63,14 @@ pub fn round_on(bench: Bench, words: &mut [u32]) -> Played
 fn round_told(count: usize, survey: Survey, lent: usize) -> RoundTold
     ensures { λ r. ⌜ toldNumber r ≡ roundNumber count survey lent ⌝ }
 {
+    let few = lent < MOST_WORDS;
     if rows::bad_size(count) {
         return RoundTold::RowSize;
     }
     if !survey.sound {
         return RoundTold::UnsoundStation;
     }
-    if lent < MOST_WORDS {
+    if few {
         return RoundTold::FewLentWords;
     }
     if survey.empty {
@@ -112,13 +113,14 @@ fn play(at: [Station; 32], sof: u32, words: &mut [u32]) -> RoundAnswer
     let bits = line::contend(at, &mut lost, words);
     let closing = line::BEFORE_BITS + bits;
     words[closing] = END_WIDTH;
+    let count = closing + 1;
     let time = sum(words, closing);
     let counts = entries::counts(at);
     let verdicts = entries::verdicts(&counts, &lost);
     RoundAnswer {
         told: RoundTold::Played,
         verdicts,
-        words: closing + 1,
+        words: count,
         line_time: Micros(time),
     }
 }
@@ -153,13 +155,15 @@ fn after_round(at: [Station; 32], verdicts: [Verdict; 32]) -> [Station; 32]
     next
 }
 
+// A station after a round: empty where it got through.
 fn after_verdict(station: Station, verdict: Verdict) -> Station
     ensures { λ r. ⌜ r ≡ afterFare (verdict .fared) station ⌝ }
 {
     let fared = verdict.fared;
+    let emptied = rows::empty(station);
     match fared {
         Fared::Idle => station,
-        Fared::Through => rows::empty(station),
+        Fared::Through => emptied,
         Fared::Lost(_) => station,
     }
 }

@@ -6,9 +6,11 @@ use Rattle.contest.specs.declared.Station.{Station}
 use Rattle.contest.specs.Stations.{mostStations, blank}
 use Rattle.rows.specs.declared.Bench.{Bench}
 
+-- a bench of blank stations, for a row of so many
 unfoldable pub blankBench : ℕ → Bench
 blankBench n = record { at = replicate mostStations blank; count = n }
 
+-- the bench with a station at a place; a place past the 32nd is not kept
 unfoldable pub withOf : Bench → ℕ → Station → Bench
 withOf b i s = record { at = set (b .at) i s; count = b .count }
 

@@ -71,13 +71,15 @@ fn load_at(bench: Bench, place: usize, message: &[u8]) -> Changed
     ensures { λ r. ⌜ ChangedBy bench (loadRules bench place (now (message .entry))) (loadedBench bench place (now (message .entry))) r ⌝ }
 {
     let station = bench.at[place];
-    if bad_message(message.len()) {
+    let bad = bad_message(message.len());
+    let holding = 0 < station.len;
+    if bad {
         return Changed {
             bench,
             called: Called::BadMessage,
         };
     }
-    if 0 < station.len {
+    if holding {
         return Changed {
             bench,
             called: Called::Holding,

@@ -31,6 +31,9 @@ slice-write-words-3 c =
     let s = c .before .before .contend in
     omega (arith, a .pre .2, s .ensures .few, mid-length (a .args .at) (search needs) (a .pre .0) (a .args .sof) (a .pre .1) (a .args .words .now) (a .pre .2) _ _ _ (s .ensures))
 
+add-count : tie.Need-add-count
+add-count c = search needs
+
 sum-requires : tie.Need-sum-requires
 sum-requires c κs =
     let a = c .before .before .before .before .before .before .before in
@@ -42,9 +45,6 @@ counts-requires c κs = search needs
 
 verdicts-requires : tie.Need-verdicts-requires
 verdicts-requires c κs = search needs
-
-add-t15 : tie.Need-add-t15
-add-t15 c = search needs
 
 same-length : tie.Need-same-length
 same-length c =
@@ -70,9 +70,9 @@ play-spec =
     add-closing
     mul-words
     slice-write-words-3
+    add-count
     sum-requires
     counts-requires
     verdicts-requires
-    add-t15
     same-length
     returns)

@@ -1,6 +1,5 @@
 -- `rounds::round_told` meets its contract: a way out for each rule, in their order.
 use mathlib.Core.Path.{sym, _∙_}
-use borrow.Author.Tests.{lt-ltb, le-ltb}
 use Rattle.rounds.specs.Rounds.{roundNumber}
 use borrow.Author.Needs.{needs}
 use Rattle.rounds.proofs.playing.round_told.Statement.{statement}
@@ -19,15 +18,15 @@ returns-2 c = rw (sym (c .before .before .before .bad-size .ensures) ∙ c .befo
 
 returns-3 : tie.Need-returns-3
 unfolding roundNumber
-returns-3 c = let b = c .before .before .before in rw (sym (b .before .bad-size .ensures) ∙ b .if1 .left, c .before .if2 .left, lt-ltb _ _ (c .if3 .taken))
+returns-3 c = let b = c .before .before .before in rw (sym (b .before .bad-size .ensures) ∙ b .if1 .left, c .before .if2 .left, c .if3 .taken)
 
 returns-4 : tie.Need-returns-4
 unfolding roundNumber
-returns-4 c = let b = c .before .before .before .before in rw (sym (b .before .bad-size .ensures) ∙ b .if1 .left, c .before .before .if2 .left, le-ltb _ _ (c .before .if3 .left), c .if4 .taken)
+returns-4 c = let b = c .before .before .before .before in rw (sym (b .before .bad-size .ensures) ∙ b .if1 .left, c .before .before .if2 .left, c .before .if3 .left, c .if4 .taken)
 
 returns-5 : tie.Need-returns-5
 unfolding roundNumber
-returns-5 c = let b = c .before .before .before .before in rw (sym (b .before .bad-size .ensures) ∙ b .if1 .left, c .before .before .if2 .left, le-ltb _ _ (c .before .if3 .left), c .if4 .left)
+returns-5 c = let b = c .before .before .before .before in rw (sym (b .before .bad-size .ensures) ∙ b .if1 .left, c .before .before .if2 .left, c .before .if3 .left, c .if4 .left)
 
 pub round-told-spec : {M : Type 1} → statement M
 round-told-spec =
