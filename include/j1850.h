@@ -1,14 +1,16 @@
 /*
- * Sintugapon for C: volts to intervals, and reading and writing the frames of SAE J1850 VPW.
+ * Sintugapon for C: volts to intervals, reading and writing the frames of SAE J1850 VPW, contests of up to 32 stations on
+ * the line, and the text of the support desk.
  *
  * Every answer's first field, number, is document 01's number: 0 where the call was done, the number of what reading
- * found, or the number of a refusal (31 to 37). A refusal changes no lent memory, and its other fields are 0.
+ * found, or the number of a refusal (31 to 42; the desk's own are 61 and 62). A refusal changes no lent memory, and its
+ * other fields are 0; 62 alone has a text and a line.
  *
  * A slice is a pointer and then a length in elements; where the length is 0 the pointer may be NULL. Lent memory must not
  * overlap the other arguments. Beyond memory that is there, no call asks anything of its caller: any value has an answer.
  * No call allocates, keeps state between calls or changes anything but the memory lent to it.
  *
- * Link libj1850.a, which `rt staticlib j1850` writes to target/staticlib/.
+ * `tools/library` proves the library and writes libj1850.a and libj1850.so to target/library/.
  */
 #ifndef J1850_H
 #define J1850_H
@@ -52,6 +54,21 @@ enum {
 /* The kinds of response: none, bytes alone (plain), or bytes and a check byte of their own (checked). */
 enum { J1850_WITHOUT = 0, J1850_PLAIN = 1, J1850_CHECKED = 2 };
 
+/* A station of a row: its clock and its stored message, the first `length` of its bytes. Length 0 means empty. A row is an
+   array of 1 to 32 stations, which the caller owns; one that starts empty has good clocks and lengths of 0. The byte of
+   padding behind `bytes` means nothing, and a call on the row may change it. */
+typedef struct {
+    j1850_clock clock;
+    uint8_t bytes[11];
+    size_t length;
+} j1850_station;
+
+/* How a place fared in a round: it held no message, its message went out whole, or it had to stop at a bit. */
+enum { J1850_IDLE = 0, J1850_THROUGH = 1, J1850_LOST = 2 };
+
+/* What j1850_desk has to be lent: words, and bytes of text. */
+enum { J1850_DESK_WORDS = 16384, J1850_DESK_TEXT = 442463 };
+
 typedef struct {
     uint32_t number; /* always 0 */
     uint8_t check;   /* the check byte */
@@ -82,6 +99,28 @@ typedef struct {
     size_t response; /* 0: how many response bytes stand behind them, a checked response's check byte included */
 } j1850_read_answer;
 
+typedef struct {
+    uint32_t number; /* 0, or the number of the refusal */
+} j1850_call_answer;
+
+typedef struct {
+    uint32_t fared; /* J1850_IDLE, J1850_THROUGH or J1850_LOST */
+    size_t bit;     /* lost: at which bit, counted from 1 behind the SOF; otherwise 0 */
+} j1850_verdict;
+
+typedef struct {
+    uint32_t number;            /* 0, or the number of the refusal */
+    uint32_t line_time;         /* the microseconds of all intervals but the closing 300 */
+    size_t words;               /* how many of the lent words were written, from the first on; the words past them stay */
+    j1850_verdict verdicts[32]; /* how each place of the row fared; idle past the row, and all idle where refused */
+} j1850_round_answer;
+
+typedef struct {
+    uint32_t number; /* 0 a report; 61 too little lent; 62 a bad input */
+    size_t line;     /* 62: the number of the input's first bad line, from 1 on; otherwise 0 */
+    size_t length;   /* 0 and 62: how many bytes of text were written, from the first on; the bytes past them stay */
+} j1850_desk_answer;
+
 /* The check byte that is sent behind these bytes. */
 j1850_check_answer j1850_check_byte(const uint8_t *bytes, size_t length);
 
@@ -110,6 +149,33 @@ j1850_count_answer j1850_write(j1850_clock clock, const uint8_t *main_bytes, siz
    first that applies: 31 a position past the recording's length; 32 under 12 lent bytes. */
 j1850_read_answer j1850_read(const uint32_t *intervals, size_t intervals_length, size_t from, uint8_t *bytes,
                              size_t bytes_length);
+
+/* Loads a message of 1 to 11 bytes, without its check byte, into the empty station at a place of the row, from 0 on: its
+   bytes stand first and its length is set. Refusals, the first that applies: 38 a row of 0 or over 32 stations; 39 a
+   station in the row with a length over 11 or a clock outside the sending windows; 40 no such place; 37 no bytes, or more
+   than 11; 41 the station holds a message. */
+j1850_call_answer j1850_load(j1850_station *row, size_t row_length, size_t place, const uint8_t *message,
+                             size_t message_length);
+
+/* Withdraws the message of the station at a place: its length becomes 0. Refusals, the first that applies: 38, 39 and 40
+   as for j1850_load; 42 nothing to withdraw. */
+j1850_call_answer j1850_withdraw(j1850_station *row, size_t row_length, size_t place);
+
+/* Sets the clock of the station at a place. Refusals, the first that applies: 38, 39 and 40 as for j1850_load; 36 a clock
+   outside the sending windows. */
+j1850_call_answer j1850_set_clock(j1850_station *row, size_t row_length, size_t place, j1850_clock clock);
+
+/* Plays a round: all stations that hold a message begin together, whoever asks for another bit than the one on the line
+   stops, and those that get through become empty. The intervals of the line go into the lent words; lend 101. Refusals, the
+   first that applies: 38 and 39 as for j1850_load; 32 under 101 words; 42 nobody holds a message. */
+j1850_round_answer j1850_round(j1850_station *row, size_t row_length, uint32_t *words, size_t words_length);
+
+/* The desk's text for a recording: the input is a line `own`, customer, vehicle, and a line `iv`, width, for each interval,
+   the fields parted by tabs; the text has a line for each frame, fault and end. Lend J1850_DESK_WORDS words, which take the
+   input's widths, and J1850_DESK_TEXT bytes, however short the input. A bad input (62) has a text too: the line `refused`
+   with the number of its first bad line. The words then hold the widths before that line. */
+j1850_desk_answer j1850_desk(const uint8_t *input, size_t input_length, uint32_t *words, size_t words_length,
+                             uint8_t *text, size_t text_length);
 
 #ifdef __cplusplus
 }

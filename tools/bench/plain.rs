@@ -72,11 +72,11 @@ pub fn check_step(register: u8, byte: u8) -> u8 {
     register
 }
 
-fn check(bytes: &[u8]) -> u8 {
+pub fn check(bytes: &[u8]) -> u8 {
     !bytes.iter().fold(0xFF, |r, b| check_step(r, *b))
 }
 
-fn good_clock(clock: Clock) -> bool {
+pub fn good_clock(clock: Clock) -> bool {
     (49..=79).contains(&clock.short)
         && (112..=145).contains(&clock.long)
         && (182..=218).contains(&clock.sof)

@@ -9,7 +9,7 @@ pub struct Gate {
 }
 
 #[repr(C)]
-#[derive(Clone, Copy, Debug)]
+#[derive(Clone, Copy, PartialEq, Debug)]
 pub struct Clock {
     pub short: u32,
     pub long: u32,
@@ -55,8 +55,48 @@ pub struct Read {
     pub response: usize,
 }
 
+/// A station of a row: its clock and its stored bytes, of which the first `length` are the message it holds.
+#[repr(C)]
+#[derive(Clone, Copy, PartialEq, Debug)]
+pub struct Station {
+    pub clock: Clock,
+    pub bytes: [u8; 11],
+    pub length: usize,
+}
+
+#[repr(C)]
+#[derive(Clone, Copy, PartialEq, Debug)]
+pub struct Called {
+    pub number: u32,
+}
+
+/// How a place fared: 0 idle, 1 through, 2 lost at a bit, which is 0 for the other two.
+#[repr(C)]
+#[derive(Clone, Copy, PartialEq, Debug)]
+pub struct Verdict {
+    pub fared: u32,
+    pub bit: usize,
+}
+
+#[repr(C)]
+#[derive(Clone, Copy, PartialEq, Debug)]
+pub struct Round {
+    pub number: u32,
+    pub line_time: u32,
+    pub words: usize,
+    pub verdicts: [Verdict; 32],
+}
+
+#[repr(C)]
+#[derive(Clone, Copy, PartialEq, Debug)]
+pub struct Desk {
+    pub number: u32,
+    pub line: usize,
+    pub length: usize,
+}
+
 mod library {
-    use super::{Check, Class, Clock, Counted, Gate, Read, Timed};
+    use super::{Called, Check, Class, Clock, Counted, Desk, Gate, Read, Round, Station, Timed};
 
     #[link(name = "j1850", kind = "static")]
     extern "C" {
@@ -87,6 +127,34 @@ mod library {
             bytes: *mut u8,
             bytes_length: usize,
         ) -> Read;
+        pub fn j1850_load(
+            row: *mut Station,
+            row_length: usize,
+            place: usize,
+            message: *const u8,
+            message_length: usize,
+        ) -> Called;
+        pub fn j1850_withdraw(row: *mut Station, row_length: usize, place: usize) -> Called;
+        pub fn j1850_set_clock(
+            row: *mut Station,
+            row_length: usize,
+            place: usize,
+            clock: Clock,
+        ) -> Called;
+        pub fn j1850_round(
+            row: *mut Station,
+            row_length: usize,
+            words: *mut u32,
+            words_length: usize,
+        ) -> Round;
+        pub fn j1850_desk(
+            input: *const u8,
+            input_length: usize,
+            words: *mut u32,
+            words_length: usize,
+            text: *mut u8,
+            text_length: usize,
+        ) -> Desk;
     }
 }
 
@@ -136,4 +204,27 @@ pub fn write(clock: Clock, main: &[u8], kind: u32, response: &[u8], words: &mut 
 pub fn read(intervals: &[u32], from: usize, bytes: &mut [u8]) -> Read {
     let (first, count) = (pointer(intervals), intervals.len());
     unsafe { library::j1850_read(first, count, from, lent(bytes), bytes.len()) }
+}
+
+pub fn load(row: &mut [Station], place: usize, message: &[u8]) -> Called {
+    let (bytes, count) = (pointer(message), message.len());
+    unsafe { library::j1850_load(lent(row), row.len(), place, bytes, count) }
+}
+
+pub fn withdraw(row: &mut [Station], place: usize) -> Called {
+    unsafe { library::j1850_withdraw(lent(row), row.len(), place) }
+}
+
+pub fn set_clock(row: &mut [Station], place: usize, clock: Clock) -> Called {
+    unsafe { library::j1850_set_clock(lent(row), row.len(), place, clock) }
+}
+
+pub fn round(row: &mut [Station], words: &mut [u32]) -> Round {
+    unsafe { library::j1850_round(lent(row), row.len(), lent(words), words.len()) }
+}
+
+pub fn desk(input: &[u8], words: &mut [u32], text: &mut [u8]) -> Desk {
+    let (first, count) = (pointer(input), input.len());
+    let (w, t) = (words.len(), text.len());
+    unsafe { library::j1850_desk(first, count, lent(words), w, lent(text), t) }
 }

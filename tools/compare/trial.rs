@@ -8,17 +8,19 @@ use crate::wrong::Wrong;
 use std::fmt::Debug;
 
 /// Words and bytes that stand before and behind the lent ones and may not change.
-const AROUND: usize = 8;
+pub const AROUND: usize = 8;
 
 pub struct Trial {
     pub random: Random,
     pub tally: Tally,
-    seed: u64,
-    wrong: Wrong,
+    pub seed: u64,
+    pub wrong: Wrong,
+    /// The second program stands in for the library too: then only what document 01 says of rounds can fail.
+    pub alone: bool,
 }
 
 /// Prints a case on which the programs differ, and ends the run.
-fn differ(seed: u64, call: &str, case: &[(&str, String)], found: [String; 2]) -> ! {
+pub fn differ(seed: u64, call: &str, case: &[(&str, String)], found: [String; 2]) -> ! {
     println!("compare: the programs differ (seed {seed})");
     println!("  call    {call}");
     for (name, value) in case {
@@ -30,13 +32,13 @@ fn differ(seed: u64, call: &str, case: &[(&str, String)], found: [String; 2]) ->
 }
 
 /// The first values of a list, and how many there are.
-fn shown<T: Debug>(values: &[T]) -> String {
+pub fn shown<T: Debug>(values: &[T]) -> String {
     let first = &values[..values.len().min(200)];
     format!("{} of {first:?}", values.len())
 }
 
 /// An answer and the first lent place at which the two programs' memories differ.
-fn told<A: Debug, W: Debug + PartialEq>(answer: &A, mine: &[W], theirs: &[W]) -> String {
+pub fn told<A: Debug, W: Debug + PartialEq>(answer: &A, mine: &[W], theirs: &[W]) -> String {
     let place = (0..mine.len()).find(|i| mine[*i] != theirs[*i]);
     let place = place.map(|i| (i as isize - AROUND as isize, &mine[i]));
     match place {
@@ -52,18 +54,19 @@ impl Trial {
             tally: Tally::default(),
             seed,
             wrong,
+            alone: false,
         }
     }
 
     /// What lent words hold before a call: values that no answer is likely to have there.
-    fn words(&mut self, lent: usize) -> Vec<u32> {
+    pub fn words(&mut self, lent: usize) -> Vec<u32> {
         let start = self.random.next() as u32;
         let value =
             |i: usize| start.wrapping_add((i as u32).wrapping_mul(0x9E37_79B9)) | 0x8000_0000;
         (0..lent + 2 * AROUND).map(value).collect()
     }
 
-    fn bytes(&mut self, lent: usize) -> Vec<u8> {
+    pub fn bytes(&mut self, lent: usize) -> Vec<u8> {
         let start = self.random.next() as u8;
         let value = |i: usize| start.wrapping_add((i as u8).wrapping_mul(0x3B));
         (0..lent + 2 * AROUND).map(value).collect()

@@ -33,7 +33,7 @@ pub fn corner_clocks() -> Vec<Clock> {
 }
 
 /// Clocks that lie outside by as little as can be, or by much.
-fn bad_clocks() -> Vec<Clock> {
+pub fn bad_clocks() -> Vec<Clock> {
     let shorts = [0, 48, 80, u32::MAX].map(|short| Clock { short, ..NOMINAL });
     let longs = [0, 111, 146, u32::MAX].map(|long| Clock { long, ..NOMINAL });
     let sofs = [0, 181, 219, u32::MAX].map(|sof| Clock { sof, ..NOMINAL });

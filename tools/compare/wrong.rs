@@ -3,6 +3,12 @@
 
 #[path = "wrong_reading.rs"]
 pub mod reading;
+#[path = "wrong_round.rs"]
+pub mod round;
+#[path = "wrong_row.rs"]
+pub mod row;
+#[path = "wrong_text.rs"]
+pub mod text;
 #[path = "wrong_volts.rs"]
 pub mod volts;
 #[path = "wrong_writing.rs"]
@@ -16,12 +22,14 @@ pub enum Part {
     Volts,
     Writing,
     Reading,
+    Row,
+    Text,
 }
 
 macro_rules! variants {
     ($($part:ident { $($name:ident $text:literal)* })*) => {
         #[derive(Clone, Copy, PartialEq, Debug)]
-        pub enum Wrong { Nothing, $($($name),*),* }
+        pub enum Wrong { Nothing, Unaltered, $($($name),*),* }
 
         /// Each variant with the cases that are to catch it, under the words that the command line takes.
         pub const ALL: &[(Wrong, Part, &str)] = &[$($((Wrong::$name, Part::$part, $text)),*),*];
@@ -94,9 +102,114 @@ variants! {
         ReadPastCleared "byte-past-the-frame-cleared"
         FaultWrites "fault-writes"
     }
+
+    Row {
+        RowOf32Refused "row-of-32-refused"
+        RowOf33Taken "row-of-33-taken"
+        EmptyForgiven "39-for-holders-alone"
+        TwelveSound "stored-length-of-12-taken"
+        UnsoundBeforeSize "39-before-38"
+        PlaceBeforeUnsound "40-before-39"
+        OfferedBeforePlace "37-and-36-before-40"
+        HeldBeforeMessage "41-before-37"
+        PlacesFromOne "places-counted-from-1"
+        ElevenNotLoaded "11-bytes-not-loaded"
+        LoadClearsRest "loading-clears-the-bytes-past-the-message"
+        LoadedBackwards "last-byte-stored-first"
+        LoadedOver "loaded-over-a-message"
+        RefusedLoadStores "refused-loading-stores"
+        WithdrawClears "withdrawing-clears-the-bytes"
+        NothingWithdrawn "nothing-to-withdraw-is-done"
+        HolderKeepsClock "holder-keeps-its-clock"
+        SofNotSet "clock-set-without-its-sof"
+        ClockEmpties "setting-a-clock-empties"
+        LoserSendsItsByte "loser-sends-out-its-byte"
+        LostAByteLate "lost-at-the-end-of-the-byte"
+        ShorterAhead "shorter-frame-ahead"
+        FinishedThrough "finished-station-let-through"
+        FinishedLosesAtLast "finished-station-loses-at-its-last-bit"
+        BitsFromZero "bits-counted-from-0"
+        CheckNotSent "check-byte-not-sent"
+        LongestAndShortestExchanged "longest-and-shortest-exchanged"
+        PassiveLongest "passive-bit-as-the-longest"
+        ActiveShortest "active-bit-as-the-shortest"
+        SofShortest "sof-as-the-shortest"
+        IdleShapesSof "idle-clock-shapes-the-sof"
+        IdleShapesBits "idle-clock-shapes-the-bits"
+        LosersShape "losers-clock-shapes-the-bits"
+        FirstShapes "first-clock-shapes-the-bits"
+        ClosingCounted "closing-300-counted"
+        OpeningNotCounted "opening-300-not-counted"
+        OneOfEqual "one-of-equal-messages-goes-out"
+        LosersEmptied "losers-emptied"
+        ThroughClears "going-through-clears-the-bytes"
+        EmptyThrough "empty-place-told-through"
+        RoundPastCleared "word-past-the-round-cleared"
+        RoundHundredEnough "round-with-100-words"
+        RoundWordsFirst "32-before-39"
+        NobodyBeforeWords "42-before-32"
+        RefusedRoundWrites "refused-round-writes"
+        RefusedRoundEmpties "refused-round-empties"
+    }
+
+    Text {
+        LeadingZeroTaken "leading-zero-taken"
+        PlusTaken "plus-taken"
+        ReturnTaken "carriage-return-taken"
+        WidthWraps "4294967296-taken-for-0"
+        UpperWordTaken "upper-case-iv-taken"
+        LabelOf17Taken "label-of-17-taken"
+        BlankLineSkipped "blank-line-skipped"
+        OpenLineTaken "last-line-without-newline-taken"
+        TooManyTaken "16385-lines-taken"
+        LinesFromZero "lines-counted-from-0"
+        EmptyIsLineZero "empty-input-is-line-0"
+        LastLineNamed "last-line-named"
+        RefusedBehindHeader "refusal-behind-a-header"
+        RefusedWordsKept "no-words-from-a-bad-input"
+        HeaderLeftOut "header-left-out"
+        LabelsExchanged "labels-exchanged"
+        FrameAtClosing "frame-at-its-closing"
+        FaultAtOpening "fault-at-its-opening"
+        QuietAtTheEnd "quiet-at-the-end"
+        UnfinishedLineAtPosition "unfinished-at-the-position"
+        LowerHex "lower-case-hex"
+        MainWithoutCheck "main-part-without-its-check"
+        MarksExchanged "response-marks-exchanged"
+        MarksLeftOut "response-marks-left-out"
+        NothingForNone "nothing-where-a-part-is-none"
+        LastAnswerLeftOut "last-answer-left-out"
+        LastNewlineLeftOut "last-newline-left-out"
+        WordLessEnough "16383-words-enough"
+        ByteLessEnough "442462-bytes-enough"
+        ShortLentWritten "too-little-lent-is-written"
+        WordPastCleared "word-past-the-widths-cleared"
+        BytePastCleared "byte-past-the-text-cleared"
+    }
 }
 
+/// The variants that break what document 01 says of rounds and of waiting, so that it can be seen without the library.
+pub const WATCHED: &[Wrong] = &[
+    Wrong::LoserSendsItsByte,
+    Wrong::LostAByteLate,
+    Wrong::ShorterAhead,
+    Wrong::FinishedThrough,
+    Wrong::FinishedLosesAtLast,
+    Wrong::BitsFromZero,
+    Wrong::CheckNotSent,
+    Wrong::LongestAndShortestExchanged,
+    Wrong::ClosingCounted,
+    Wrong::OpeningNotCounted,
+    Wrong::OneOfEqual,
+    Wrong::LosersEmptied,
+    Wrong::EmptyThrough,
+];
+
+/// The variant of a name. `unaltered` goes the variants' ways, with no rule altered.
 pub fn named(name: &str) -> Option<(Wrong, Part)> {
+    if name == "unaltered" {
+        return Some((Wrong::Unaltered, Part::All));
+    }
     let found = ALL.iter().find(|(_, _, text)| *text == name);
     found.map(|(wrong, part, _)| (*wrong, *part))
 }

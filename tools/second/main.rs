@@ -12,10 +12,10 @@ mod volts;
 mod worked;
 mod writing;
 
-use std::io::{Read, Write};
+use std::io::{BufRead, Read, Write};
 use std::process::ExitCode;
 
-const USAGE: &str = "usage: second worked | second desk [FILE] | second self-test";
+const USAGE: &str = "usage: second worked | second desk [FILE] | second desks | second self-test";
 
 fn input(file: Option<&String>) -> std::io::Result<Vec<u8>> {
     let mut bytes = Vec::new();
@@ -32,6 +32,23 @@ fn print(bytes: &[u8]) -> std::io::Result<()> {
     let mut out = std::io::stdout().lock();
     out.write_all(bytes)?;
     out.flush()
+}
+
+/// Answers many inputs in one run: each comes as its length on a line of its own and then its bytes, and so does its text.
+fn desks() -> std::io::Result<()> {
+    let mut input = std::io::stdin().lock();
+    let mut texts = Vec::new();
+    let mut line = String::new();
+    while input.read_line(&mut line)? > 0 {
+        let length: usize = line.trim_end().parse().map_err(std::io::Error::other)?;
+        let mut bytes = vec![0; length];
+        input.read_exact(&mut bytes)?;
+        let text = text::desk(&bytes);
+        writeln!(texts, "{}", text.len())?;
+        texts.extend(text);
+        line.clear();
+    }
+    print(&texts)
 }
 
 fn run_self_test() -> ExitCode {
@@ -65,6 +82,7 @@ fn main() -> ExitCode {
         ["desk"] | ["desk", _] => {
             finish(input(words.get(1)).and_then(|bytes| print(&text::desk(&bytes))))
         }
+        ["desks"] => finish(desks()),
         ["self-test"] => run_self_test(),
         _ => {
             eprintln!("{USAGE}");

@@ -6,10 +6,10 @@ use crate::reading::{read, Answer, Frame, Kind, MOST_BYTES};
 const MOST_LINES: usize = 16_384;
 
 /// An input that passed: both labels and the recording.
-struct Order {
+pub struct Order {
     customer: String,
     vehicle: String,
-    recording: Vec<u32>,
+    pub recording: Vec<u32>,
 }
 
 fn label(field: &str) -> bool {
@@ -44,7 +44,7 @@ fn iv_line(line: &[u8]) -> Option<u32> {
 }
 
 /// The whole input judged; refused with the number of its first bad line.
-fn order(input: &[u8]) -> Result<Order, usize> {
+pub fn order(input: &[u8]) -> Result<Order, usize> {
     let mut lines = input.split_inclusive(|byte| *byte == b'\n');
     let (customer, vehicle) = lines.next().and_then(own_line).ok_or(1usize)?;
     let mut recording = Vec::new();

@@ -25,9 +25,11 @@ use Rattle.bench.specs.Restoring.{padded, putBack, put-first, put-same}
 -- ## A row that is not turned away for its size
 
 module _ (row : List Station) (few : length row ≤ mostStations) where
+  -- A row's bench is sound where the row is ..
   pub sound-same : allSound (benchOf row .at) ≡ allSound row
   sound-same = ap allSound (padded row few) ∙ sound-pad (mostStations - length row) row
 
+  -- .. and empty where it is.
   pub empty-same : allEmpty (benchOf row .at) ≡ allEmpty row
   empty-same = ap allEmpty (padded row few) ∙ empty-pad (mostStations - length row) row
 
@@ -44,6 +46,7 @@ module _ (row : List Station) (few : length row ≤ mostStations) where
       put-first (withOf (benchOf row) i s) row (set row i s) (length-set row i s)
       (take-set-lt (length row) (benchOf row .at) i s h ∙ ap (λ (l : List Station). set l i s) first-same)
 
+-- A row that 38 does not turn away has at most 32 stations.
 pub few-of : (row : List Station) → rowSize row ≡ false → length row ≤ mostStations
 few-of row e = ltb-false mostStations (length row) (neither (eqb (length row) 0) (ltb mostStations (length row)) e .1)
 

@@ -90,6 +90,7 @@ module _ (row : List Station) (lent : List ℕ) where
         put-first b row (afterFares (roundOf row .fares) row) (after-length (roundOf row .fares) row)
         (ap (take (length row)) so ∙ take-at (afterFares (roundOf row .fares) row) (replicate (mostStations - length row) blank) (length row) (after-length (roundOf row .fares) row))
 
+  -- A round that is played on the bench of a row keeps the promise for the row.
   pub round-kept : (lent′ : List ℕ) (r : Played) → PlayedBy (benchOf row) lent lent′ r → RoundPromise row (putBack (r .bench) row) lent lent′ (r .answer)
   unfolding roundSays after taken done lentAfter
   round-kept lent′ r c = go (eqb (numberOf (round lent) row) 0) refl (c .says ∙ ap says rules) (c .leaves ∙ ap leaves rules) (c .lends ∙ ap lends rules)

@@ -18,10 +18,12 @@ use Rattle.contest.specs.Calls.{allSound, allEmpty}
 abbrev idle : ℕ → List Seat
 idle n = replicate n (out Idle)
 
+-- One change made to two lists, one behind the other.
 pub map-append : {A B : Type 0} (f : A → B) (x y : List A) → map f (x ++ y) ≡ map f x ++ map f y
 map-append f [] y = refl
 map-append {A} {B} f (a ∷ x) y = ap (λ (r : List B). f a ∷ r) (map-append f x y)
 
+-- The same change made to equal elements.
 pub map-replicate : {A B : Type 0} (f : A → B) (a : A) (n : ℕ) → map f (replicate n a) ≡ replicate n (f a)
 map-replicate f a zero = refl
 map-replicate {A} {B} f a (suc n) = ap (λ (r : List B). f a ∷ r) (map-replicate f a n)
@@ -29,6 +31,7 @@ map-replicate {A} {B} f a (suc n) = ap (λ (r : List B). f a ∷ r) (map-replica
 -- ## The rules
 
 module _ (n : ℕ) where
+  -- Blank stations past the end are sound ..
   pub sound-pad : (row : List Station) → allSound (row ++ replicate n blank) ≡ allSound row
   unfolding allSound
   sound-pad [] = blanks n
@@ -38,6 +41,7 @@ module _ (n : ℕ) where
       blanks (suc m) = rw (nominal-good, blanks m)
   sound-pad (s ∷ row) = rw (sound-pad row)
 
+  -- .. and empty.
   pub empty-pad : (row : List Station) → allEmpty (row ++ replicate n blank) ≡ allEmpty row
   unfolding allEmpty
   empty-pad [] = blanks n
@@ -109,6 +113,7 @@ module _ (n : ℕ) where
   idle-stay zero = refl
   idle-stay (suc m) = ap (λ (r : List Station). blank ∷ r) (idle-stay m)
 
+  -- The blank stations stay as they are.
   pub after-pad : (fares : List Fared) (row : List Station) → length fares ≡ length row → afterFares (fares ++ replicate n Idle) (row ++ replicate n blank) ≡ afterFares fares row ++ replicate n blank
   unfolding afterFares
   after-pad [] [] e = idle-stay n

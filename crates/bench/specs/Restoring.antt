@@ -31,6 +31,7 @@ enough [] n m k g h = blanks n m (omega arith) ∙ sym (blanks n k (omega arith)
 enough (s ∷ l) zero m k g h = refl
 enough (s ∷ l) (suc n) m k g h = ap (λ (r : List Station). s ∷ r) (enough l n m k (omega arith) (omega arith))
 
+-- none yet
 pub gather-start : (row : List Station) → replicate mostStations blank ≡ gathered row 0
 unfolding gathered
 gather-start row = refl
@@ -101,6 +102,7 @@ padded row h =
 unfoldable pub putBack : Bench → List Station → List Station
 putBack b row = from (λ (i : ℕ). getD (b .at) i (getD row i blank)) 0 (length row)
 
+-- As many stations as there were.
 pub put-length : (b : Bench) (row : List Station) → length (putBack b row) ≡ length row
 unfolding putBack
 put-length b row = from-length (λ (i : ℕ). getD (b .at) i (getD row i blank)) 0 (length row)

@@ -1,14 +1,14 @@
 -- The check byte tells apart any two messages of the same length that differ in one byte.
-use mathlib.Core.Path.{_≡_, refl, sym, ap, _∙_}
-use mathlib.Core.Bool.{Bool, true, false, cond}
+use mathlib.Core.Path.{_≡_, sym, ap, _∙_}
+use mathlib.Core.Bool.{Bool, cond}
 use mathlib.Core.List.{List, [], _∷_, _++_}
-use Prim.Native.Nat.{ℕ, _+_, _*_, _-_, _/_, _%_, _≤_, _<_}
+use Prim.Native.Nat.{ℕ, _+_, _-_, _/_, _%_, _<_}
 use native.Mathlib.Omega.{arith}
 use lib.Bits.{bitXor, xor-lt}
 use lib.Dec.{eqb, eqb→eq}
-use Rattle.laws.specs.Each.{below, each}
-use Rattle.checkbyte.specs.Register.{eightShifts, stepOf, registerFrom, registerOf, checkOf, withCheck, endsRight, allOnes, residue, polynomial}
-use Rattle.checkbyte.specs.Residue.{step-lt, register-lt, register-append, check-lt, inverse}
+use Rattle.laws.specs.Each.{each}
+use Rattle.checkbyte.specs.Register.{eightShifts, stepOf, registerFrom, registerOf, checkOf, allOnes, residue, polynomial}
+use Rattle.checkbyte.specs.Residue.{step-lt, register-lt, register-append, inverse}
 use Rattle.checkbyte.specs.Xor.{xor-same, xor-same-left}
 
 -- every number of the list is a byte, as every element of a slice of u8 is

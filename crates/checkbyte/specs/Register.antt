@@ -22,6 +22,7 @@ residue = 0xC4
 unfoldable pub shift : ℕ → ℕ
 shift r = bitXor ((r * 2) % 256) ((r / 128 % 2) * polynomial)
 
+-- eight bits, one after the other
 unfoldable pub eightShifts : ℕ → ℕ
 unfolding shift
 eightShifts r = shift (shift (shift (shift (shift (shift (shift (shift r)))))))
@@ -41,8 +42,11 @@ abbrev pub registerOf : List ℕ → ℕ
 registerOf bs = registerFrom allOnes bs
 
 -- "result inverted"
+abbrev pub checkFrom : ℕ → List ℕ → ℕ
+checkFrom r bs = allOnes - registerFrom r bs
+
 unfoldable pub checkOf : List ℕ → ℕ
-checkOf bs = allOnes - registerOf bs
+checkOf bs = checkFrom allOnes bs
 
 -- bytes with their check byte behind them, as they go out on the line
 abbrev pub withCheck : List ℕ → List ℕ

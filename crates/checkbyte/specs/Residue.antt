@@ -1,5 +1,5 @@
 -- Over any bytes and their check byte together the register ends at 0xC4, and over no others.
-use mathlib.Core.Path.{_≡_, refl, sym, ap, _∙_}
+use mathlib.Core.Path.{_≡_, refl, ap, _∙_}
 use mathlib.Core.Bool.{Bool, true}
 use mathlib.Core.List.{List, [], _∷_, _++_}
 use Prim.Native.Nat.{ℕ, _+_, _*_, _-_, _/_, _%_, _≤_, _<_}
@@ -11,7 +11,7 @@ use lib.Dec.{eqb, eqb→eq}
 use lib.ListN.{length, getD, drop}
 use lib.Seq.{drop-cons, drop-length}
 use borrow.Author.Tests.{eq-eqb}
-use Rattle.laws.specs.Each.{below, each}
+use Rattle.laws.specs.Each.{each}
 use Rattle.checkbyte.specs.Register.{shift, eightShifts, stepOf, registerFrom, registerOf, checkOf, withCheck, endsRight, allOnes, residue, polynomial}
 
 -- A shift of a byte, with no number in it that leaves a byte's range on the way.
@@ -35,6 +35,7 @@ pub step-lt : (r b : ℕ) → stepOf r b < 256
 unfolding stepOf
 step-lt r b = eight-lt (bitXor r b)
 
+-- The same over any bytes.
 pub register-lt : (r : ℕ) (bs : List ℕ) → r < 256 → registerFrom r bs < 256
 unfolding registerFrom
 register-lt r [] h = h
@@ -55,6 +56,7 @@ register-append r (x ∷ a) b = register-append (stepOf r x) a b
 inverseTest : ℕ → Bool
 inverseTest r = eqb (stepOf r (allOnes - r)) residue
 
+-- A register that is fed its own inverse, which is what the check byte does, ends at 0xC4.
 pub inverse : (r : ℕ) → r < 256 → stepOf r (allOnes - r) ≡ residue
 unfolding inverseTest stepOf
 inverse r h = eqb→eq (stepOf r (allOnes - r)) residue (each 256 inverseTest tt r h)
@@ -65,6 +67,7 @@ unfolding registerFrom checkOf
 residue-is bs =
     register-append allOnes bs (checkOf bs ∷ []) ∙ inverse (registerOf bs) (register-lt allOnes bs (omega arith))
 
+-- So the test for a right check byte says true of every message with its check byte.
 pub ends-right : (bs : List ℕ) → endsRight (withCheck bs) ≡ true
 unfolding endsRight
 ends-right bs = eq-eqb (registerOf (withCheck bs)) residue (residue-is bs)

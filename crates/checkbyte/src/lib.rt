@@ -1,7 +1,7 @@
 // The check byte of SAE J1850. The register's step for one byte stands behind one name, so that whoever feeds bytes,
 // here or above, does not see how it is worked out.
 ghost use mathlib.Core.Path.{_≡_};
-ghost use Rattle.checkbyte.specs.Register.{shift, stepOf, registerOf, checkOf, endsRight};
+ghost use Rattle.checkbyte.specs.Register.{shift, stepOf, registerFrom, checkFrom, checkOf, endsRight};
 
 // The polynomial below its x^8, the register at first, and where it ends over bytes with their check byte.
 const POLYNOMIAL: u8 = 0x1D;
@@ -32,11 +32,11 @@ pub fn step(register: u8, byte: u8) -> u8
     shifted(r7)
 }
 
-// The register after all the bytes.
-pub fn register(bytes: &[u8]) -> u8
-    ensures { λ r. ⌜ r ≡ registerOf (now (bytes .entry)) ⌝ }
+// The register after all the bytes, from where it stood before them.
+pub fn register_from(start: u8, bytes: &[u8]) -> u8
+    ensures { λ r. ⌜ r ≡ registerFrom start (now (bytes .entry)) ⌝ }
 {
-    let mut r = ALL_ONES;
+    let mut r = start;
     let mut i = 0;
     while i < bytes.len() {
         r = step(r, bytes[i]);
@@ -45,16 +45,23 @@ pub fn register(bytes: &[u8]) -> u8
     r
 }
 
+// The register after all the bytes, inverted. From all ones it is their check byte.
+pub fn check_from(start: u8, bytes: &[u8]) -> u8
+    ensures { λ r. ⌜ r ≡ checkFrom start (now (bytes .entry)) ⌝ }
+{
+    ALL_ONES - register_from(start, bytes)
+}
+
 // The check byte that is sent behind these bytes.
 pub fn check_byte(bytes: &[u8]) -> u8
     ensures { λ r. ⌜ r ≡ checkOf (now (bytes .entry)) ⌝ }
 {
-    ALL_ONES - register(bytes)
+    check_from(ALL_ONES, bytes)
 }
 
 // Whether the last of these bytes is the check byte of those before it.
 pub fn ends_right(bytes: &[u8]) -> bool
     ensures { λ r. ⌜ r ≡ endsRight (now (bytes .entry)) ⌝ }
 {
-    register(bytes) == RESIDUE
+    register_from(ALL_ONES, bytes) == RESIDUE
 }

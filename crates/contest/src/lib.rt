@@ -4,7 +4,8 @@ use symbol::Clock;
 use units::Micros;
 
 // A station of the row: its clock and its stored message, the first `len` of its bytes. A station of length 0 is empty;
-// what its bytes then hold counts for nothing.
+// what its bytes then hold counts for nothing. Laid out as C has it, since other languages lend a row of them.
+#[repr(C)]
 pub struct Station {
     pub clock: Clock,
     pub bytes: [u8; 11],

@@ -1,6 +1,6 @@
 -- The text that the desk tells of fits the page that it is lent, and the bytes that were read fit the buffer.
 use Prim.Native.Nat.{ℕ, _≤_}
-use mathlib.Core.Path.{_≡_, ap, _∙_}
+use mathlib.Core.Path.{_≡_, ap}
 use mathlib.Core.Bool.{Bool, true, false, cond}
 use mathlib.Core.List.{List}
 use native.Mathlib.Omega.{arith}
@@ -14,7 +14,7 @@ use Rattle.text.specs.declared.Answered.{Answered}
 use Rattle.text.specs.declared.Answered.the-variants.{Report, Refused}
 use Rattle.text.specs.Input.{lines, firstBad}
 use Rattle.text.specs.Report.{deskOf}
-use Rattle.text.specs.Calls.{mostText, Told, Page, reported, turnedDown, short, pageBy, lentShort, answering, answeredTold, pageTells, DeskPromise}
+use Rattle.text.specs.Calls.{mostText, Told, reported, turnedDown, short, lentShort, answering, answeredTold, pageTells, DeskPromise}
 use Rattle.text.specs.Whole.{desk-size}
 
 page-size : (s : List ℕ) (words bytes : ℕ) → pageTells (answering s words bytes) .length ≤ mostText

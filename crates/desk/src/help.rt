@@ -1,25 +1,12 @@
 // How to use the desk, as `desk --help` prints it.
 use libc::STDOUT_FILENO;
 
-// Whether two texts are the same.
-pub(crate) fn same(a: &[u8], b: &[u8]) -> bool {
-    if a.len() != b.len() {
-        return false;
-    }
-    let mut i = 0;
-    while i < a.len() {
-        if a[i] != b[i] {
-            return false;
-        }
-        i += 1;
-    }
-    true
-}
-
+// Writes a line of the page.
 fn say(line: &[u8]) {
     io::write_all(STDOUT_FILENO, line);
 }
 
+// How the program is called.
 fn usage() {
     say(b"desk: what a recording of a J1850 VPW line holds\n\n");
     say(b"  desk           reads standard input\n");
@@ -27,6 +14,7 @@ fn usage() {
     say(b"  desk --help    prints this page\n\n");
 }
 
+// What it reads.
 fn input() {
     say(b"Input: text, fields parted by one tab, each line closed by a newline.\n");
     say(b"  own  CUSTOMER  VEHICLE    the first line; labels of 1 to 16 letters, digits, - or _\n");
@@ -35,6 +23,7 @@ fn input() {
     );
 }
 
+// What it writes.
 fn output() {
     say(b"Output: a header, a line for each answer, and last a quiet or an unfinished line.\n");
     say(b"  customer  vehicle  at  kind  main  response\n");
@@ -43,12 +32,14 @@ fn output() {
     say(b"c: for bytes and a check byte of their own. Kinds:\n");
 }
 
+// The kinds of line that are no fault.
 fn kinds() {
     say(b"  frame       a good frame\n");
     say(b"  quiet       no further frame begins\n");
     say(b"  unfinished  a frame begins, and the recording ends first\n");
 }
 
+// Faults of the line.
 fn line_faults() {
     say(b"  fault-11    noise inside a frame\n");
     say(b"  fault-12    a bit where the start of frame should stand\n");
@@ -57,6 +48,7 @@ fn line_faults() {
     say(b"  fault-15    a second start of frame inside a frame\n");
 }
 
+// Faults of the bytes.
 fn byte_faults() {
     say(b"  fault-16    a part ends inside a byte\n");
     say(b"  fault-17    a part has too few bytes\n");

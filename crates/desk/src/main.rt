@@ -3,8 +3,11 @@
 mod help;
 
 ghost use mathlib.Core.Path.{_≡_};
-ghost use Prim.Native.Nat.{_≤_};
+ghost use Prim.Native.Nat.{_+_};
 ghost use lib.ListN.{length};
+ghost use Rattle.text.specs.Enough.{mostInput};
+ghost use Rattle.text.specs.Input.{mostWidths};
+ghost use Rattle.text.specs.Calls.{mostText};
 ghost use Rattle.desk.specs.Filling.{Within};
 use libc::STDERR_FILENO;
 use libc::STDIN_FILENO;
@@ -20,20 +23,23 @@ const WORDS: usize = 16384;
 
 const PAGE: usize = 442463;
 
+// Room for the input.
 fn room() -> [u8; ENOUGH]
-    ensures { λ r. ⌜ 229415 ≡ length r ⌝ }
+    ensures { λ r. ⌜ 1 + mostInput ≡ length r ⌝ }
 {
     [0u8; ENOUGH]
 }
 
+// Words for its widths.
 fn words() -> [u32; WORDS]
-    ensures { λ r. ⌜ 16384 ≡ length r ⌝ }
+    ensures { λ r. ⌜ mostWidths ≡ length r ⌝ }
 {
     [0u32; WORDS]
 }
 
+// Bytes for the text.
 fn page() -> [u8; PAGE]
-    ensures { λ r. ⌜ 442463 ≡ length r ⌝ }
+    ensures { λ r. ⌜ mostText ≡ length r ⌝ }
 {
     [0u8; PAGE]
 }
@@ -102,17 +108,18 @@ fn serve_file(name: &[u8]) {
 
 // The one argument: `-`, `--help` or a name.
 fn serve_named(name: &[u8]) {
-    if help::same(name, b"-") {
+    if field::same(name, b"-") {
         serve(STDIN_FILENO, b"standard input");
         return;
     }
-    if help::same(name, b"--help") {
+    if field::same(name, b"--help") {
         help::print();
         return;
     }
     serve_file(name);
 }
 
+// One argument at most: a file, `-` or `--help`.
 fn main() {
     let count = os::arg_count();
     if count > 2 {

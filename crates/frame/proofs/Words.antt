@@ -1,5 +1,5 @@
 -- The lent words while a frame is laid into them, part by part.
-use Prim.Native.Nat.{ℕ, _+_, _*_, _≤_, _<_}
+use Prim.Native.Nat.{ℕ, _+_, _*_, _/_, _≤_, _<_}
 use mathlib.Core.Path.{_≡_, refl, sym, ap, _∙_}
 use mathlib.Core.Bool.{false}
 use mathlib.Core.List.{List, [], _∷_, _++_, append-assoc}
@@ -9,12 +9,36 @@ use lib.Seq.{sets, length-take-le, take-all, length-sets}
 use Rattle.laws.specs.Lent.{sets-then}
 use Rattle.symbol.specs.declared.Clock.{Clock}
 use Rattle.symbol.specs.Sending.{endWidth}
-use Rattle.checkbyte.specs.Register.{checkOf, withCheck}
+use Rattle.checkbyte.specs.Register.{allOnes, checkFrom, checkOf, withCheck}
 use Rattle.framing.specs.declared.Response.{Response}
 use Rattle.framing.specs.declared.Response.the-variants.{Plain, Checked}
-use Rattle.framing.specs.Bits.{bitsOf, bitsOfByte}
+use Rattle.framing.specs.Bits.{odd, bitsOf, bitsOfByte}
 use Rattle.framing.specs.Writing.{bitWidths, byteWidths, responseWidths, frameWords}
 use Rattle.framing.specs.WidthLaws.{byte-widths-length, byte-widths-append, byte-widths-more, with-check-length, responseWords, response-widths-length, frame-words-length}
+
+-- the widths of a number's two lowest bits
+abbrev pub pair : Clock → ℕ → List ℕ
+pair c n = bitWidths c false (odd (n / 2) ∷ odd n ∷ [])
+
+-- A byte, two bits at a time.
+pub pairs-laid : (c : Clock) (b : ℕ) (l : List ℕ) (at : ℕ)
+    → sets (sets (sets (sets l at (pair c (b / 64))) (at + 2) (pair c (b / 16))) (at + 2 + 2) (pair c (b / 4))) (at + 2 + 2 + 2) (pair c b)
+    ≡ sets l at (bitWidths c false (bitsOfByte b))
+unfolding bitWidths
+pairs-laid c b l at =
+    let half : List ℕ = pair c (b / 64) ++ pair c (b / 16) in
+    let most : List ℕ = half ++ pair c (b / 4) in
+    let n : at + 2 + 2 ≡ at + length half = omega arith in
+    let m : at + 2 + 2 + 2 ≡ at + length most = omega arith in
+    let first : b / 64 / 2 ≡ b / 128 = omega arith in
+    let third : b / 16 / 2 ≡ b / 32 = omega arith in
+    let fifth : b / 4 / 2 ≡ b / 8 = omega arith in
+    ap (λ (ws : List ℕ). sets (sets ws (at + 2 + 2) (pair c (b / 4))) (at + 2 + 2 + 2) (pair c b)) (sets-then l at (pair c (b / 64)) (pair c (b / 16)))
+    ∙ ap (λ (k : ℕ). sets (sets (sets l at half) k (pair c (b / 4))) (at + 2 + 2 + 2) (pair c b)) n
+    ∙ ap (λ (ws : List ℕ). sets ws (at + 2 + 2 + 2) (pair c b)) (sets-then l at half (pair c (b / 4)))
+    ∙ ap (λ (k : ℕ). sets (sets l at most) k (pair c b)) m
+    ∙ sets-then l at most (pair c b)
+    ∙ rw (first, third, fifth)
 
 -- One byte more.
 pub byte-more : (c : Clock) (bs l : List ℕ) (at i : ℕ) → i < length bs
@@ -32,17 +56,23 @@ byte-more c bs l at i h =
 pub byte-all : (c : Clock) (bs l : List ℕ) (at i : ℕ) → length bs ≤ i → sets l at (byteWidths c (take i bs)) ≡ sets l at (byteWidths c bs)
 byte-all c bs l at i h = ap (λ (rs : List ℕ). sets l at (byteWidths c rs)) (take-all i bs h)
 
--- Bytes, and their check byte behind them.
-pub check-laid : (c : Clock) (bs l : List ℕ) (at : ℕ)
-    → sets (sets l at (byteWidths c bs)) (at + 8 * length bs) (bitWidths c false (bitsOfByte (checkOf bs)))
-    ≡ sets l at (byteWidths c (withCheck bs))
+-- Bytes, and one more behind them.
+pub check-laid : (c : Clock) (check : ℕ) (bs l : List ℕ) (at : ℕ)
+    → sets (sets l at (byteWidths c bs)) (at + 8 * length bs) (bitWidths c false (bitsOfByte check))
+    ≡ sets l at (byteWidths c (bs ++ (check ∷ [])))
 unfolding bitWidths bitsOf
-check-laid c bs l at =
+check-laid c check bs l at =
     let n : at + 8 * length bs ≡ at + length (byteWidths c bs) = omega (arith, byte-widths-length c bs) in
-    let check : List ℕ = bitWidths c false (bitsOfByte (checkOf bs)) in
-    ap (λ (k : ℕ). sets (sets l at (byteWidths c bs)) k check) n
-    ∙ sets-then l at (byteWidths c bs) check
-    ∙ ap (λ (ws : List ℕ). sets l at ws) (sym (byte-widths-append c bs (checkOf bs ∷ [])))
+    let last : List ℕ = bitWidths c false (bitsOfByte check) in
+    ap (λ (k : ℕ). sets (sets l at (byteWidths c bs)) k last) n
+    ∙ sets-then l at (byteWidths c bs) last
+    ∙ ap (λ (ws : List ℕ). sets l at ws) (sym (byte-widths-append c bs (check ∷ [])))
+
+-- Where the register starts at all ones, that one is their check byte.
+pub afresh : (c : Clock) (bs l : List ℕ) (at : ℕ)
+    → sets l at (byteWidths c (bs ++ (checkFrom allOnes bs ∷ []))) ≡ sets l at (byteWidths c (withCheck bs))
+unfolding checkOf
+afresh c bs l at = refl
 
 -- A response: its EOD and normalization bit, and then its bytes.
 pub response-laid : (l : List ℕ) (at first mark : ℕ) (ws : List ℕ)
@@ -89,9 +119,9 @@ module _ (c : Clock) (main : List ℕ) (kind : Response) (rs l : List ℕ) (enou
   pub main-room : 2 + 8 * (length main + 1) < length l
   main-room = omega (arith, frame-words-length c main kind rs)
 
-  module _ (m : List ℕ) (eod first sof : ℕ) (at-eod : eod ≡ 2 + 8 * (length main + 1)) (laid : m ≡ sets (set (set l 0 first) 1 sof) 2 (byteWidths c (withCheck main))) where
+  module _ (m : List ℕ) (eod first sof : ℕ) (at-eod : eod ≡ 2 + 8 * (length main + 1)) (laid : m ≡ sets (set (set l 0 first) 1 sof) 2 (byteWidths c (main ++ (checkFrom allOnes main ∷ [])))) where
     pub main-long : length m ≡ length l
-    main-long = ap length laid ∙ length-sets (set (set l 0 first) 1 sof) 2 (byteWidths c (withCheck main)) ∙ length-set (set l 0 first) 1 sof ∙ length-set l 0 first
+    main-long = ap length laid ∙ length-sets (set (set l 0 first) 1 sof) 2 (byteWidths c (main ++ (checkFrom allOnes main ∷ []))) ∙ length-set (set l 0 first) 1 sof ∙ length-set l 0 first
 
     -- so has the response behind them
     pub response-room : eod + length (responseWidths c kind rs) ≤ length m

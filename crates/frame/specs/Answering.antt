@@ -22,13 +22,16 @@ abbrev pub foundBy : FoundPlace → Found
 foundBy nowhere = Nowhere
 foundBy (at o) = At o
 
+-- a place by its number
 abbrev pub placed : ℕ → Place
 placed i = record { 0 = i }
 
+-- a good frame, by its lengths, its response and its places
 abbrev pub frameOf : (main response : ℕ) → Response → (opening closing : ℕ) → Reading
 frameOf main response kind opening closing =
     Frame (record { main = main; response = response }) kind (placed opening) (placed closing)
 
+-- the frame that a machine closes, by the phase in which it does
 abbrev pub framedIn : Phase → Machine → ℕ → ℕ → Reading
 framedIn Sof m o k = frameOf (m .count) 0 Without o k
 framedIn Main m o k = frameOf (m .count) 0 Without o k

@@ -71,6 +71,7 @@ Says (Byte b) n ws o k m kept = (decides ws o k ≡ false) × ((n < mostBytes) �
 Says Closed n ws o k m kept = (decides ws o k ≡ true) × ((faultAt ws o k ≡ 0) × Before ws o k m kept)
 Says (Faulty f) n ws o k m kept = (decides ws o k ≡ true) × (faultAt ws o k ≡ faultNumber f)
 
+-- No fault has the number 0.
 pub some-fault : (f : Fault) → eqb (faultNumber f) 0 ≡ false
 some-fault Noise = refl
 some-fault NoSof = refl

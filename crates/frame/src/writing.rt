@@ -1,5 +1,5 @@
 // Writing: a message becomes the words of a frame.
-ghost use Prim.Native.Nat.{_+_, _*_, _≤_, _<_};
+ghost use Prim.Native.Nat.{_+_, _*_, _/_, _≤_};
 ghost use mathlib.Core.Path.{_≡_};
 ghost use mathlib.Core.Bool.{true, false};
 ghost use mathlib.Core.List.{[], _∷_, _++_};
@@ -7,8 +7,7 @@ ghost use lib.ListN.{length};
 ghost use lib.Seq.{sets};
 ghost use lib.Dec.{eqb, ltb, leb};
 ghost use mathlib.Core.Bool.{_||_};
-ghost use Rattle.checkbyte.specs.Register.{withCheck};
-ghost use Rattle.symbol.specs.Clocks.{goodOf};
+ghost use Rattle.checkbyte.specs.Register.{checkFrom};
 ghost use Rattle.framing.specs.Bits.{odd, bitsOfByte};
 ghost use Rattle.symbol.specs.Sending.{bitWidth};
 ghost use Rattle.framing.specs.Writing.{bitWidths, byteWidths, responseWidths, frameWords, badMessage, WritePromise};
@@ -96,7 +95,7 @@ fn put_frame(clock: Clock, main: &[u8], kind: Response, response: &[u8], lent: &
     let sof = clock.sof;
     lent[0] = END_WIDTH;
     lent[1] = sof.0;
-    let eod = put_checked(clock, main, lent, 2);
+    let eod = put_checked(clock, checkbyte::ALL_ONES, main, lent, 2);
     let closing = put_response(clock, kind, response, lent, eod);
     lent[closing] = END_WIDTH;
     closing + 1
@@ -116,7 +115,7 @@ fn put_response(clock: Clock, kind: Response, response: &[u8], lent: &mut [u32],
         }
         Response::Checked => {
             let first = put_eod(clock, false, lent, at);
-            put_checked(clock, response, lent, first)
+            put_checked(clock, checkbyte::ALL_ONES, response, lent, first)
         }
     }
 }
@@ -134,13 +133,13 @@ fn put_eod(clock: Clock, plain: bool, lent: &mut [u32], at: usize) -> usize
     at + 2
 }
 
-// Bytes and their check byte.
-fn put_checked(clock: Clock, bytes: &[u8], lent: &mut [u32], at: usize) -> usize
+// Bytes and their check byte, with the register that stands before them: all ones, since each part is checked alone.
+fn put_checked(clock: Clock, register: u8, bytes: &[u8], lent: &mut [u32], at: usize) -> usize
     requires { ⌜ at + 8 * (length (now bytes) + 1) ≤ length (now lent) ⌝ }
     ensures { λ r. ⌜ r ≡ at + 8 * (length (now (bytes .entry)) + 1) ⌝ }
-    ensures { λ _. ⌜ now (lent .exit) ≡ sets (now (lent .entry)) at (byteWidths clock (withCheck (now (bytes .entry)))) ⌝ }
+    ensures { λ _. ⌜ now (lent .exit) ≡ sets (now (lent .entry)) at (byteWidths clock (now (bytes .entry) ++ (checkFrom register (now (bytes .entry)) ∷ []))) ⌝ }
 {
-    let check = checkbyte::check_byte(bytes);
+    let check = checkbyte::check_from(register, bytes);
     let last = put_bytes(clock, bytes, lent, at);
     put_byte(clock, check, lent, last)
 }
@@ -160,21 +159,27 @@ fn put_bytes(clock: Clock, bytes: &[u8], lent: &mut [u32], at: usize) -> usize
     next
 }
 
-// The eight bits of a byte, the high bit first, starting passive.
+// The eight bits of a byte, the high bit first, two at a time.
 fn put_byte(clock: Clock, b: u8, lent: &mut [u32], at: usize) -> usize
     requires { ⌜ at + 8 ≤ length (now lent) ⌝ }
     ensures { λ r. ⌜ r ≡ at + 8 ⌝ }
     ensures { λ _. ⌜ now (lent .exit) ≡ sets (now (lent .entry)) at (bitWidths clock false (bitsOfByte b)) ⌝ }
 {
-    lent[at] = width(clock, false, b / 128);
-    lent[at + 1] = width(clock, true, b / 64);
-    lent[at + 2] = width(clock, false, b / 32);
-    lent[at + 3] = width(clock, true, b / 16);
-    lent[at + 4] = width(clock, false, b / 8);
-    lent[at + 5] = width(clock, true, b / 4);
-    lent[at + 6] = width(clock, false, b / 2);
-    lent[at + 7] = width(clock, true, b);
-    at + 8
+    let third = put_pair(clock, b / 64, lent, at);
+    let fifth = put_pair(clock, b / 16, lent, third);
+    let seventh = put_pair(clock, b / 4, lent, fifth);
+    put_pair(clock, b, lent, seventh)
+}
+
+// The two lowest bits of a number, the higher one first: a passive interval and an active one.
+fn put_pair(clock: Clock, n: u8, lent: &mut [u32], at: usize) -> usize
+    requires { ⌜ at + 2 ≤ length (now lent) ⌝ }
+    ensures { λ r. ⌜ r ≡ at + 2 ⌝ }
+    ensures { λ _. ⌜ now (lent .exit) ≡ sets (now (lent .entry)) at (bitWidths clock false (odd (n / 2) ∷ odd n ∷ [])) ⌝ }
+{
+    lent[at] = width(clock, false, n / 2);
+    lent[at + 1] = width(clock, true, n);
+    at + 2
 }
 
 // The width of a number's lowest bit.

@@ -1,10 +1,10 @@
 -- The answer of the call that reads, set out as document 01 tells it: its number, and the values that go with it.
 use Prim.Native.Nat.{ℕ}
 use mathlib.Core.Path.{_≡_}
-use mathlib.Core.List.{List, [], _∷_, _++_}
+use mathlib.Core.List.{List, [], _++_}
 use lib.ListN.{length, drop}
 use Rattle.framing.specs.declared.Response.{Response}
-use Rattle.framing.specs.declared.Response.the-variants.{Without, Plain, Checked}
+use Rattle.framing.specs.declared.Response.the-variants.{Without}
 use Rattle.framing.specs.declared.Fault.{Fault}
 use Rattle.framing.specs.declared.Fault.the-variants.{Noise, NoSof, Break, Stuck, LateSof, SplitByte, FewBytes, WrongCheck, EodAfterResponse, ThirteenthByte}
 use Rattle.framing.specs.declared.Reading.{Reading}
@@ -33,6 +33,7 @@ pub record Told : Type 0 where
   pub responseLength : ℕ
   pub response : Response
 
+-- an answer without a frame
 abbrev pub bare : (number next opening : ℕ) → Told
 bare number next opening =
     record { number = number; next = next; opening = opening; mainLength = 0; responseLength = 0; response = Without }

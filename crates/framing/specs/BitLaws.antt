@@ -1,12 +1,12 @@
 -- One bit more: what it does to the bytes so far and to the bits that are left over.
 use Prim.Native.Nat.{ℕ, zero, suc, _+_, _-_, _*_, _%_, _≤_, _<_}
-use mathlib.Core.Path.{_≡_, refl, sym, ap, _∙_}
+use mathlib.Core.Path.{_≡_, refl, ap, _∙_}
 use mathlib.Core.List.{List, [], _∷_, _++_}
 use mathlib.Core.Bool.{Bool, true, false}
 use native.Mathlib.Omega.{arith}
 use native.Mathlib.Nat.{add-zero}
 use lib.Dec.{eqb}
-use lib.ListN.{length, getD, take, length-append}
+use lib.ListN.{length, length-append}
 use lib.Seq.{take-append-seam, getD-append-seam}
 use borrow.Author.Tests.{ne-eqb}
 use Rattle.symbol.specs.declared.Symbol.the-variants.{Bit1}
@@ -32,11 +32,13 @@ unfoldable pub behind : ℕ → List Bool → ℕ
 behind n [] = n
 behind n (b ∷ bits) = behind (n * 2 + value b) bits
 
+-- One bit more behind them doubles the number and adds the bit.
 pub behind-more : (n : ℕ) (bits : List Bool) (b : Bool) → behind n (bits ++ (b ∷ [])) ≡ behind n bits * 2 + value b
 unfolding behind
 behind-more n [] b = refl
 behind-more n (x ∷ bits) b = behind-more (n * 2 + value x) bits b
 
+-- A bit is 0 or 1.
 pub value-small : (b : Bool) → value b ≤ 1
 value-small true = omega arith
 value-small false = omega arith
@@ -48,6 +50,7 @@ pub data OneMore (bits : List Bool) (b : Bool) : Type 0 where
   isWhole : (n : ℕ) → behind 1 (leftOver bits) * 2 + value b ≡ 256 + n → bytes (bits ++ (b ∷ [])) ≡ bytes bits ++ (n ∷ [])
       → leftOver (bits ++ (b ∷ [])) ≡ [] → OneMore bits b
 
+-- One of the two happens to each bit.
 pub one-more : (bits : List Bool) (b : Bool) → OneMore bits b
 unfolding leftOver behind bytes
 one-more [] b = isLeft (omega (arith, value-small b)) refl refl
@@ -110,6 +113,7 @@ bits-next ws i k h =
     let m : i + (k - i) ≡ k = omega arith in
     ap (bitsFrom ws i) n ∙ bits-more ws i (k - i) ∙ ap (λ (x : ℕ). bitsFrom ws i (k - i) ++ (is Bit1 (symbolAt ws x) ∷ [])) m
 
+-- No places carry no bits.
 pub bits-empty : (ws : List ℕ) (i k : ℕ) → k ≤ i → bitsIn ws i k ≡ []
 unfolding bitsFrom
 bits-empty ws i k h = let n : k - i ≡ 0 = omega arith in ap (bitsFrom ws i) n

@@ -4,6 +4,7 @@ use mathlib.Core.Bool.{Bool, true, false}
 use mathlib.Core.List.{List, [], _∷_, _++_}
 use lib.Dec.{eqb}
 
+-- the number that a bit is
 abbrev pub value : Bool → ℕ
 value true = 1
 value false = 0
@@ -24,6 +25,7 @@ bytes (a ∷ b ∷ c ∷ d ∷ e ∷ f ∷ []) = []
 bytes (a ∷ b ∷ c ∷ d ∷ e ∷ f ∷ g ∷ []) = []
 bytes (a ∷ b ∷ c ∷ d ∷ e ∷ f ∷ g ∷ h ∷ rest) = byte a b c d e f g h ∷ bytes rest
 
+-- the last bit of a number
 abbrev pub odd : ℕ → Bool
 odd n = eqb (n % 2) 1
 

@@ -93,6 +93,7 @@ bytes-few (a ∷ b ∷ c ∷ d ∷ e ∷ f ∷ []) = omega arith
 bytes-few (a ∷ b ∷ c ∷ d ∷ e ∷ f ∷ g ∷ []) = omega arith
 bytes-few (a ∷ b ∷ c ∷ d ∷ e ∷ f ∷ g ∷ h ∷ rest) = omega (arith, bytes-few rest)
 
+-- Every number that bits make is a byte.
 pub bytes-made : (bits : List Bool) → Bytes (bytes bits)
 unfolding bytes
 bytes-made [] = tt
@@ -118,6 +119,7 @@ withoutCheck bs = take (length bs - 1) bs
 pub with-checks : (bs : List ℕ) → checksOut (withCheck bs) ≡ true
 with-checks bs = checks-more bs (checkOf bs) ∙ eq-eqb (checkOf bs) (checkOf bs) refl
 
+-- Bytes with their check byte are bytes.
 pub with-bytes : (bs : List ℕ) → Bytes bs → Bytes (withCheck bs)
 with-bytes bs h = behind bs (checkOf bs) (check-lt bs) h
   where

@@ -29,6 +29,7 @@ nothing f e h = go (eqb f 0) refl h
     go true q h = (eqb-true f 0 q, h)
     go false q h = never refl h
 
+-- Where no interval decides, none is at fault and none is an end ..
 pub undecided : (ws : List ℕ) (o k : ℕ) → ((j : ℕ) → o < j → j < k → decides ws o j ≡ false) → Undecided ws o k
 unfolding decides
 undecided ws o k h =
@@ -37,6 +38,7 @@ undecided ws o k h =
       no-end = λ j a b. nothing (faultAt ws o j) (endAt ws j) (h j a b) .1;
     }
 
+-- .. and the other way round.
 pub still : (ws : List ℕ) (o k j : ℕ) → Undecided ws o k → o < j → j < k → decides ws o j ≡ false
 unfolding decides
 still ws o k j u a b = rw (u .no-fault j a b, u .no-end j a b)
@@ -105,6 +107,7 @@ positive : (n : ℕ) → ¬ (n ≡ 0) → 0 < n
 positive zero h = absurd (h refl)
 positive (suc n) h = omega arith
 
+-- Each frame that is opened comes to one of them.
 pub decision : (ws : List ℕ) (o : ℕ) → Decision ws o (decided ws o)
 decision ws o = by (firstIn (decides ws o) (o + 1) (length ws)) refl
   where
@@ -127,6 +130,7 @@ pub record FaultyAt (ws : List ℕ) (o n k : ℕ) : Type 0 where
   pub at-fault : faultAt ws o k ≡ n
   pub some-fault : 0 < n
 
+-- All of that is known of a fault.
 pub faulty-at : (ws : List ℕ) (o n k : ℕ) → decided ws o ≡ faulty n k → FaultyAt ws o n k
 faulty-at ws o n k e = go (decided ws o) (decision ws o) e
   where
@@ -158,6 +162,7 @@ pub record GoodAt (ws : List ℕ) (o : ℕ) (main response : List ℕ) (kind : R
   pub response-is : response ≡ responseBytes (stands ws o k)
   pub kind-is : kind ≡ facts (stands ws o k) .answered
 
+-- All of that is known of a good frame.
 pub good-at : (ws : List ℕ) (o : ℕ) (main response : List ℕ) (kind : Response) (opened k : ℕ)
     → decided ws o ≡ good main response kind opened k → GoodAt ws o main response kind opened k
 good-at ws o main response kind opened k e = go (decided ws o) (decision ws o) e

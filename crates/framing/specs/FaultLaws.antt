@@ -36,6 +36,7 @@ pub record ReadsFault (ws : List ℕ) (p lent n k : ℕ) : Type 0 where
   pub opens : Opens ws p opening
   pub at-fault : AtFault ws opening n k
 
+-- The call answers fault n at k exactly when that is so.
 pub reading-fault : (ws : List ℕ) (p lent n k : ℕ) → 0 < n → (reading ws p lent ≡ faulty n k) ↔ ReadsFault ws p lent n k
 reading-fault ws p lent n k h = (there, back)
   where

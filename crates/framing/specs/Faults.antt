@@ -1,7 +1,7 @@
 -- The faults of document 01's table "What reading answers", a line a row.
 use Prim.Native.Nat.{ℕ, _+_, _-_, _%_}
-use mathlib.Core.Bool.{Bool, true, false, cond, not, _&&_, _||_}
-use mathlib.Core.List.{List, [], _∷_, _++_}
+use mathlib.Core.Bool.{Bool, true, false, cond, not, _&&_}
+use mathlib.Core.List.{List, [], _++_}
 use lib.Dec.{eqb, ltb}
 use lib.ListN.{length, getD, take}
 use Rattle.symbol.specs.declared.Symbol.{Symbol}
@@ -11,7 +11,7 @@ use Rattle.framing.specs.declared.Response.{Response}
 use Rattle.framing.specs.declared.Response.the-variants.{Without, Plain, Checked}
 use Rattle.framing.specs.Bits.{bytes}
 use Rattle.framing.specs.Line.{is, isBit, shuts}
-use Rattle.framing.specs.Standing.{Kind, plain, checked, Standing, atSof, inMain, atNormalization, inResponse}
+use Rattle.framing.specs.Standing.{plain, checked, Standing, atSof, inMain, atNormalization, inResponse}
 
 -- "All bytes together are at most 12."
 abbrev pub mostBytes : ℕ
@@ -41,9 +41,11 @@ facts (inResponse checked m r) = record { sofPlace = false; inPart = true; respo
 abbrev pub mainBytes : Standing → List ℕ
 mainBytes st = bytes (facts st .main)
 
+-- those of the response
 abbrev pub responseBytes : Standing → List ℕ
 responseBytes st = bytes (facts st .response)
 
+-- those of the part in which the interval stands
 abbrev pub partBytes : Standing → List ℕ
 partBytes st = bytes (facts st .part)
 

@@ -18,6 +18,7 @@ pub record IsFirst (test : ℕ → Bool) (i n k : ℕ) : Type 0 where
 pub lost : {A : Type 0} {f : Found} {k : ℕ} → f ≡ nowhere → f ≡ at k → A
 lost p q = let z : _≡_ {A = ℕ} 0 1 = cc in absurd (omega arith)
 
+-- The place found is the first at which the test holds.
 pub first-at : (test : ℕ → Bool) (i n k : ℕ) → first test i n ≡ at k → IsFirst test i n k
 unfolding first
 first-at test i zero k h = lost refl h
@@ -53,6 +54,7 @@ at-first test i (suc n) k f = go (eq-or-lt-of-le (f .from)) (at-first test (i + 
     go (inl e) ih = rw (e, f .holds)
     go (inr l) ih = rw (f .none-earlier i (omega arith) l) (ih (later l))
 
+-- Where none is found the test holds nowhere.
 pub first-none : (test : ℕ → Bool) (i n : ℕ) → first test i n ≡ nowhere → (j : ℕ) → i ≤ j → j < i + n → test j ≡ false
 unfolding first
 first-none test i zero h j a b = absurd (omega arith)

@@ -15,6 +15,7 @@ pub mod Rows
 pub mod RowLaws
 pub mod Decided
 pub mod Outcomes
+pub mod QuietLaws
 pub mod ReadSettled
 pub mod WriteSettled
 pub mod FaultLaws

@@ -1,6 +1,6 @@
 -- A recording as document 01 looks at it: the symbol at each place, and the first place of which something is true.
 use Prim.Native.Nat.{ℕ, zero, suc, _+_, _-_, _%_}
-use mathlib.Core.Bool.{Bool, true, false, cond, _||_}
+use mathlib.Core.Bool.{Bool, cond, _||_}
 use mathlib.Core.List.{List, [], _∷_}
 use lib.Dec.{eqb}
 use lib.ListN.{length, getD}
@@ -48,6 +48,7 @@ shuts s = is Eod s || ends s
 
 -- ## The first place
 
+-- what a search comes to: no place, or the first one
 pub data Found : Type 0 where
   nowhere : Found
   at : ℕ → Found

@@ -21,14 +21,17 @@ pub record Test : Type 1 where
 abbrev pub Means : Bool → Type 0 → Type 0
 Means t A = (t ≡ true) ↔ A
 
+-- what two tests together mean
 pub and-means : (s t : Bool) {A B : Type 0} → Means s A → Means t B → Means (s && t) (A × B)
 and-means true t m n = (λ e. (m .0 refl, n .0 e), λ h. n .1 (h .1))
 and-means false t m n = (λ e. never e refl, λ h. never (m .1 (h .0)) refl)
 
+-- what one of two tests means
 pub or-means : (s t : Bool) {A B : Type 0} → Means s A → Means t B → Means (s || t) (A ⊎ B)
 or-means true t m n = (λ e. inl (m .0 refl), λ h. refl)
 or-means false t m n = (λ e. inr (n .0 e), λ h. ⊎-elim (λ a. never (m .1 a) refl) (n .1) h)
 
+-- what a test that fails means
 pub not-means : (t : Bool) {A : Type 0} → Means t A → Means (not t) (¬ A)
 not-means true m = (λ e. never e refl, λ h. absurd (h (m .0 refl)))
 not-means false m = (λ e a. never (m .1 a) refl, λ h. refl)
@@ -37,9 +40,11 @@ not-means false m = (λ e a. never (m .1 a) refl, λ h. refl)
 abbrev pub both : Test → Test → Test
 both a b = record { says = a .says && b .says; Holds = (a .Holds) × (b .Holds); means = and-means (a .says) (b .says) (a .means) (b .means) }
 
+-- one of the two, or both
 abbrev pub either : Test → Test → Test
 either a b = record { says = a .says || b .says; Holds = (a .Holds) ⊎ (b .Holds); means = or-means (a .says) (b .says) (a .means) (b .means) }
 
+-- not so
 abbrev pub isNot : Test → Test
 isNot a = record { says = not (a .says); Holds = ¬ (a .Holds); means = not-means (a .says) (a .means) }
 
@@ -47,9 +52,11 @@ isNot a = record { says = not (a .says); Holds = ¬ (a .Holds); means = not-mean
 abbrev pub set : Bool → Test
 set t = record { says = t; Holds = t ≡ true; means = (λ e. e, λ e. e) }
 
+-- two numbers are equal
 abbrev pub equals : ℕ → ℕ → Test
 equals a b = record { says = eqb a b; Holds = a ≡ b; means = (eqb-true a b, eq-eqb a b) }
 
+-- one number is less than another
 abbrev pub below : ℕ → ℕ → Test
 below a b = record { says = ltb a b; Holds = a < b; means = (ltb-true a b, lt-ltb a b) }
 
@@ -85,6 +92,7 @@ unmark Ifs = refl
 unmark Break = refl
 unmark Stuck = refl
 
+-- Two symbols with the same mark are the same symbol.
 pub is-means : (x s : Symbol) → Means (is x s) (s ≡ x)
 is-means x s =
     (λ e. sym (unmark s) ∙ ap marked (sym (eqb-true (mark x) (mark s) e)) ∙ unmark x, λ e. eq-eqb (mark x) (mark s) (ap mark (sym e)))
@@ -100,6 +108,7 @@ ends-by Ifs = refl
 ends-by Break = refl
 ends-by Stuck = refl
 
+-- An end is an EOF or an IFS.
 pub end-means : (s : Symbol) → Means (ends s) ((s ≡ Eof) ⊎ (s ≡ Ifs))
 end-means s = rw (ends-by s) (or-means (is Eof s) (is Ifs s) (is-means Eof s) (is-means Ifs s))
 

@@ -20,6 +20,7 @@ pub record Opens (ws : List ℕ) (p o : ℕ) : Type 0 where
   pub none-before : (j : ℕ) → p ≤ j → j < o → endAt ws j ≡ false
   pub followed : o + 1 < length ws
 
+-- what a call comes to, with what has to be so of its arguments
 pub data Comes (ws : List ℕ) (p lent : ℕ) : Outcome → Type 0 where
   isPast : length ws < p → Comes ws p lent (refused 31)
   isShort : p ≤ length ws → lent < mostBytes → Comes ws p lent (refused 32)
@@ -80,6 +81,7 @@ pub record OpenedBy (ws : List ℕ) (p lent : ℕ) (x : Outcome) : Type 0 where
   pub opens : Opens ws p opening
   pub is-decided : decided ws opening ≡ x
 
+-- All of that is known of a frame and of a fault.
 pub opened-by : (ws : List ℕ) (p lent : ℕ) (x : Outcome) → goesOn x ≡ true → reading ws p lent ≡ x → OpenedBy ws p lent x
 opened-by ws p lent x g e = go (reading ws p lent) (comes ws p lent) e
   where

@@ -38,6 +38,7 @@ bit-no-end : (b : Bool) → ends (bitSymbol b) ≡ false
 bit-no-end true = refl
 bit-no-end false = refl
 
+-- Bits for which there is room go in, and none of them is at fault.
 pub bits-pass : {part : List Bool → Standing} {room : ℕ} → Grows part room → (so-far bits : List Bool) → length so-far + length bits ≤ room
     → Passes (part so-far) (bitSymbols bits) (part (so-far ++ bits))
 bits-pass {part} g so-far [] h = rw (append-nil so-far) stay
@@ -51,6 +52,7 @@ not-twelve : (m r : List Bool) → length m + length r < 96 → eqb (length (byt
 not-twelve m r h =
     ne-eqb (length (bytes m ++ bytes r)) 12 (λ e. omega (arith, bytes-few m, bytes-few r, length-append (bytes m) (bytes r)))
 
+-- Twelve bytes have 96 bits, and so much room has the main part ..
 pub main-grows : Grows inMain 96
 unfolding fault
 main-grows = record { on = on; fine = fine }
@@ -63,6 +65,7 @@ main-grows = record { on = on; fine = fine }
     fine true bits h = rw (not-twelve bits [] (omega arith))
     fine false bits h = rw (not-twelve bits [] (omega arith))
 
+-- .. and the response what the main part leaves of it.
 pub response-grows : (k : Kind) (m : List Bool) → Grows (inResponse k m) (96 - length m)
 unfolding fault
 response-grows k m = record { on = on; fine = λ b bits h. fine k b bits (omega arith) }
@@ -85,6 +88,7 @@ pub record Complete (st : Standing) : Type 0 where
   pub enough : facts st .fewest ≤ length (partBytes st)
   pub checks : (facts st .hasCheck && not (checksOut (partBytes st))) ≡ false
 
+-- A test that fails makes both fail.
 pub and-false : (b : Bool) → (b && false) ≡ false
 and-false true = refl
 and-false false = refl
@@ -118,6 +122,7 @@ shut-fine st s e r c =
       r,
     )
 
+-- An end behind a complete part is at no fault.
 pub end-fine : (st : Standing) (s : Symbol) → ends s ≡ true → Complete st → fault st s ≡ 0
 end-fine st s e c = shut-fine st s (by s e .0) (by s e .1) c
   where

@@ -22,6 +22,7 @@ pub data Passes : Standing → List Symbol → Standing → Type 0 where
   pass : {st st' : Standing} {s : Symbol} {symbols : List Symbol} → fault st s ≡ 0 → ends s ≡ false → Passes (after st s) symbols st'
       → Passes st (s ∷ symbols) st'
 
+-- One row of such symbols and then another.
 pub passes-append : {a b c : Standing} {xs ys : List Symbol} → Passes a xs b → Passes b ys c → Passes a (xs ++ ys) c
 passes-append stay q = q
 passes-append (pass f e p) q = pass f e (passes-append p q)

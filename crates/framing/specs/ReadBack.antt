@@ -125,6 +125,7 @@ long-end ws k h w = rw (ne-eqb (k % 2) 1 (λ e. omega arith), le-leb 240 (getD w
 pub wave-words : {main : List ℕ} {kind : Response} {rs ws : List ℕ} → FrameWave main kind rs ws → length ws ≡ length (frameSymbols main kind rs) + 2
 wave-words f = ap length (f .words-are) ∙ omega (arith, length-append (f .inner) (f .closing ∷ []), wave-length (f .carries))
 
+-- An admitted message takes at most 101 words at any widths.
 pub wave-few : {main : List ℕ} {kind : Response} {rs ws : List ℕ} → FrameWave main kind rs ws → badMessage main kind rs ≡ false → length ws ≤ mostWords
 wave-few {main} {kind} {rs} f h = omega (arith, wave-words f, words-count nominalClock main kind rs, admitted-words main rs nominalClock kind h)
 

@@ -1,7 +1,7 @@
 -- What reading answers, in document 01's words. Nothing here goes through a recording but the search for a first place.
 use Prim.Native.Nat.{ℕ, _+_}
-use mathlib.Core.Bool.{Bool, true, false, cond, not, _||_}
-use mathlib.Core.List.{List, [], _∷_, _++_}
+use mathlib.Core.Bool.{Bool, cond, not, _||_}
+use mathlib.Core.List.{List}
 use lib.Dec.{eqb, leb, ltb}
 use lib.ListN.{length}
 use Rattle.framing.specs.declared.Response.{Response}
@@ -33,6 +33,7 @@ decidedBy (at k) ws o =
     (good (mainBytes (stands ws o k)) (responseBytes (stands ws o k)) (facts (stands ws o k) .answered) o k)
     (faulty (faultAt ws o k) k)
 
+-- what the frame that opens at o is decided to be: its earliest interval that decides is looked for behind the opening
 abbrev pub decided : List ℕ → ℕ → Outcome
 decided ws o = decidedBy (firstIn (decides ws o) (o + 1) (length ws)) ws o
 

@@ -59,6 +59,7 @@ pub record Row : Type 1 where
   pub number : ℕ
   pub when : Test
 
+-- the row of a number
 abbrev pub row : ℕ → Test → Row
 row n t = record { number = n; when = t }
 

@@ -186,6 +186,7 @@ reached-by ws o (suc n) a u =
     (next-reached ws o (o + 1 + n) (omega arith) (u .no-fault (o + 1 + n) (omega arith) (omega arith)) (u .no-end (o + 1 + n) (omega arith) (omega arith))
     (reached-by ws o n a before))
 
+-- All of that is known of a place before which nothing is decided.
 pub reached : (ws : List ℕ) (o k : ℕ) → o < k → activeAt (o + 1) ≡ true → Undecided ws o k → Reached ws o k
 reached ws o k h a u =
     let z : o + 1 + (k - (o + 1)) ≡ k = omega arith in

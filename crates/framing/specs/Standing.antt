@@ -2,11 +2,11 @@
 -- opening "come SOF, bytes .., then an end, or EOD and a response. A response is an active normalization bit .., bytes, and an end."
 use Prim.Native.Nat.{ℕ, _+_}
 use mathlib.Core.Bool.{Bool, true, false, cond}
-use mathlib.Core.List.{List, [], _∷_}
+use mathlib.Core.List.{List}
 use lib.Dec.{eqb}
 use Rattle.symbol.specs.declared.Symbol.the-variants.{Bit1, Eod}
 use Rattle.framing.specs.declared.Response.{Response}
-use Rattle.framing.specs.declared.Response.the-variants.{Without, Plain, Checked}
+use Rattle.framing.specs.declared.Response.the-variants.{Plain, Checked}
 use Rattle.framing.specs.Line.{symbolAt, is, Found, nowhere, at, firstIn, bitsIn}
 
 -- a response that there is: without a check byte, or with one
@@ -19,6 +19,7 @@ abbrev pub kindBy : Bool → Kind
 kindBy true = plain
 kindBy false = checked
 
+-- the response that a kind is
 abbrev pub responseOf : Kind → Response
 responseOf plain = Plain
 responseOf checked = Checked

@@ -1,6 +1,6 @@
 -- Where the next interval stands, from where this one does and what symbol it is. Later proofs use this law alone.
-use Prim.Native.Nat.{ℕ, zero, suc, _+_, _-_, _≤_, _<_}
-use mathlib.Core.Path.{_≡_, refl, sym, ap, _∙_}
+use Prim.Native.Nat.{ℕ, _+_, _-_, _≤_, _<_}
+use mathlib.Core.Path.{_≡_, refl, sym, ap}
 use mathlib.Core.List.{List, [], _∷_, _++_}
 use mathlib.Core.Bool.{Bool, true, false, cond}
 use mathlib.Core.Logic.{_⊎_, inl, inr}
@@ -10,8 +10,8 @@ use lib.Dec.{eqb}
 use borrow.Author.Tests.{eq-eqb, ne-eqb, eqb-true, eqb-false}
 use Rattle.symbol.specs.declared.Symbol.{Symbol}
 use Rattle.symbol.specs.declared.Symbol.the-variants.{Bit1, Eod}
-use Rattle.framing.specs.Line.{symbolAt, is, Found, nowhere, at, first, firstIn, bitsIn}
-use Rattle.framing.specs.Standing.{Kind, kindBy, Standing, atSof, inMain, atNormalization, inResponse, standsBy, stands}
+use Rattle.framing.specs.Line.{symbolAt, is, Found, nowhere, at, firstIn, bitsIn}
+use Rattle.framing.specs.Standing.{kindBy, Standing, atSof, inMain, atNormalization, inResponse, standsBy, stands}
 use Rattle.framing.specs.FirstLaws.{IsFirst, first-at, orAt, first-next, first-empty}
 use Rattle.framing.specs.BitLaws.{bits-next, bits-empty}
 

@@ -2,13 +2,12 @@
 -- promises, so it holds of whatever meets them.
 use Prim.Native.Nat.{ℕ, _+_, _-_, _≤_, _<_}
 use mathlib.Core.Path.{_≡_, refl, sym, ap, _∙_}
-use mathlib.Core.Bool.{Bool, true, false, cond, not}
-use mathlib.Core.List.{List, [], _∷_, _++_, append-assoc}
+use mathlib.Core.Bool.{Bool, true, false}
+use mathlib.Core.List.{List, [], _++_, append-assoc}
 use native.Mathlib.Omega.{arith}
 use lib.Dec.{ltb}
-use lib.ListN.{length, take, drop, length-append}
+use lib.ListN.{length, take, drop}
 use lib.Seq.{take-append-le, take-append-seam, drop-append-seam}
-use borrow.Author.Tests.{ltb-false}
 use Rattle.checkbyte.specs.Register.{withCheck}
 use Rattle.checkbyte.specs.Differ.{Bytes}
 use Rattle.symbol.specs.declared.Clock.{Clock}
@@ -23,9 +22,9 @@ use Rattle.framing.specs.declared.Writing.{Writing}
 use Rattle.framing.specs.declared.Writing.the-variants.{Words}
 use Rattle.framing.specs.Standing.{stands}
 use Rattle.framing.specs.Faults.{mostBytes, mainBytes, responseBytes}
-use Rattle.framing.specs.Reading.{Outcome, good, quiet, unfinished, faulty, refused, reading}
-use Rattle.framing.specs.Answers.{told, tells, written, lentAfter, ReadPromise}
-use Rattle.framing.specs.Writing.{Sheet, words, turnedAway, writing, mostWords, responseSent, frameWords, badMessage, counted, counts, wordsAfter, WritePromise}
+use Rattle.framing.specs.Reading.{Outcome, good, reading}
+use Rattle.framing.specs.Answers.{told, tells, lentAfter, ReadPromise}
+use Rattle.framing.specs.Writing.{Sheet, words, writing, mostWords, responseSent, frameWords, badMessage, counted, counts, wordsAfter, WritePromise}
 use Rattle.framing.specs.ByteLaws.{withoutCheck}
 use Rattle.framing.specs.Decided.{Decision, isUnfinished, isGood, isFaulty, decision}
 use Rattle.framing.specs.Outcomes.{Comes, isPast, isShort, isQuiet, isOpened, comes}
@@ -115,6 +114,7 @@ framed ws p lent lengths kind o k e = go (reading ws p lent) (comes ws p lent) r
 abbrev pub mainTaken : Lengths → List ℕ → List ℕ
 mainTaken lengths lent = take (lengths .main - 1) lent
 
+-- the response, which stands behind the main part
 abbrev pub responseTaken : Response → Lengths → List ℕ → List ℕ
 responseTaken Without lengths lent = []
 responseTaken Plain lengths lent = take (lengths .response) (drop (lengths .main) lent)

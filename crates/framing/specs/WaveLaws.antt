@@ -36,6 +36,7 @@ pub wave-append : {active : Bool} {a b : List Symbol} {ws vs : List ℕ} → Wav
 wave-append still v = v
 wave-append (pulse h w) v = pulse h (wave-append w v)
 
+-- A wave has a width for each symbol.
 pub wave-length : {active : Bool} {symbols : List Symbol} {ws : List ℕ} → Wave active symbols ws → length ws ≡ length symbols
 wave-length still = refl
 wave-length (pulse h w) = ap suc (wave-length w)
@@ -61,6 +62,7 @@ stands-behind before (v ∷ vs) after =
       rw (append-snoc before v (vs ++ after), n) at (stands-behind (before ++ (v ∷ [])) vs after),
     )
 
+-- Places that hold a wave carry its symbols.
 pub wave-carries : (ws : List ℕ) (i : ℕ) {active : Bool} {symbols : List Symbol} {vs : List ℕ} → Wave active symbols vs
     → activeAt i ≡ active → Stand ws i vs → Carry ws i symbols
 unfolding symbolAt
@@ -68,12 +70,14 @@ wave-carries ws i still e h = tt
 wave-carries ws i (pulse {active} {s} {w} k v) e h =
     (rw (e, h .0) (class-only active s w k), wave-carries ws (i + 1) v (level-turns i ∙ ap not e) (h .1))
 
+-- Symbols and symbols behind them, carried by the places behind.
 pub carry-append : (ws : List ℕ) (i : ℕ) (a b : List Symbol) → Carry ws i a → Carry ws (i + length a) b → Carry ws i (a ++ b)
 carry-append ws i [] b c d = rw (add-zero i) at d
 carry-append ws i (s ∷ a) b c d =
     let n : i + suc (length a) ≡ i + 1 + length a = omega arith in
     (c .0, carry-append ws (i + 1) a b (c .1) (rw n at d))
 
+-- Widths and widths behind them, held by the places behind.
 pub stand-append : (ws : List ℕ) (i : ℕ) (a b : List ℕ) → Stand ws i (a ++ b) → Stand ws i a × Stand ws (i + length a) b
 stand-append ws i [] b h = (tt, rw (add-zero i) h)
 stand-append ws i (v ∷ a) b h =

@@ -23,6 +23,7 @@ pub data Wave : Bool → List Symbol → List ℕ → Type 0 where
 abbrev pub bitSymbols : List Bool → List Symbol
 bitSymbols bits = map bitSymbol bits
 
+-- those of bytes
 abbrev pub byteSymbols : List ℕ → List Symbol
 byteSymbols bs = bitSymbols (bitsOf bs)
 

@@ -1,17 +1,17 @@
 -- The words of a frame: how many they are, how they join, and when a message is turned away.
 use Prim.Native.Nat.{ℕ, suc, _+_, _*_, _-_, _≤_, _<_}
-use mathlib.Core.Path.{_≡_, refl, sym, ap, _∙_}
-use mathlib.Core.Bool.{Bool, true, false, not, _||_}
+use mathlib.Core.Path.{_≡_, refl, ap, _∙_}
+use mathlib.Core.Bool.{true, false, _||_}
 use mathlib.Core.List.{List, [], _∷_, _++_}
 use native.Mathlib.Numerals.{add-one}
 use native.Mathlib.Omega.{arith}
 use lib.Dec.{eqb, ltb, leb, leb·suc-suc}
 use lib.ListN.{length, getD, take, length-append}
 use lib.Seq.{take-suc}
-use borrow.Author.Tests.{eq-eqb, ne-eqb, lt-ltb, le-ltb, ltb-true, ltb-false, leb-true, leb-false}
+use borrow.Author.Tests.{eq-eqb, ne-eqb, lt-ltb, le-ltb, ltb-false}
 use Rattle.laws.specs.Tests.{or-right, ltb-same, neither}
 use Rattle.symbol.specs.declared.Clock.{Clock}
-use Rattle.symbol.specs.Sending.{bitWidth, endWidth}
+use Rattle.symbol.specs.Sending.{endWidth}
 use Rattle.checkbyte.specs.Register.{checkOf, withCheck}
 use Rattle.framing.specs.declared.Response.{Response}
 use Rattle.framing.specs.declared.Response.the-variants.{Without, Plain, Checked}
@@ -24,11 +24,13 @@ pub byte-widths-cons : (c : Clock) (b : ℕ) (bs : List ℕ) → byteWidths c (b
 unfolding bitWidths bitsOf
 byte-widths-cons c b bs = refl
 
+-- Eight widths for each byte.
 pub byte-widths-length : (c : Clock) (bs : List ℕ) → length (byteWidths c bs) ≡ 8 * length bs
 unfolding bitWidths bitsOf
 byte-widths-length c [] = refl
 byte-widths-length c (b ∷ bs) = let ih = byte-widths-length c bs in omega arith
 
+-- The widths of bytes and of bytes behind them.
 pub byte-widths-append : (c : Clock) (rs bs : List ℕ) → byteWidths c (rs ++ bs) ≡ byteWidths c rs ++ byteWidths c bs
 unfolding bitWidths bitsOf
 byte-widths-append c [] bs = refl
@@ -44,6 +46,7 @@ byte-widths-more c bs i h =
     last : (b : ℕ) → byteWidths c (b ∷ []) ≡ bitWidths c false (bitsOfByte b)
     last b = refl
 
+-- A check byte is one byte more.
 pub with-check-length : (bs : List ℕ) → length (withCheck bs) ≡ length bs + 1
 with-check-length bs = length-append bs (checkOf bs ∷ [])
 
@@ -53,6 +56,7 @@ responseWords Without n = 0
 responseWords Plain n = 2 + 8 * n
 responseWords Checked n = 2 + 8 * (n + 1)
 
+-- A response takes so many words.
 pub response-widths-length : (c : Clock) (kind : Response) (rs : List ℕ) → length (responseWidths c kind rs) ≡ responseWords kind (length rs)
 response-widths-length c Without rs = refl
 response-widths-length c Plain rs = let h = byte-widths-length c rs in omega arith
@@ -61,6 +65,7 @@ response-widths-length c Checked rs =
     let k = with-check-length rs in
     omega arith
 
+-- A frame takes its two ends and its SOF, eight words for each byte of the main part with its check byte, and those of its response.
 pub frame-words-length : (c : Clock) (main : List ℕ) (kind : Response) (rs : List ℕ)
     → length (frameWords c main kind rs) ≡ 3 + 8 * (length main + 1) + responseWords kind (length rs)
 unfolding frameWords
@@ -107,6 +112,7 @@ module _ (main : List ℕ) (rs : List ℕ) where
             (λ x. omega (arith, with-check-length main)) (λ x. omega (arith, with-check-length main)),
       )
 
+  -- the same for a checked one, whose own check byte takes room too
   pub bad-checked : 0 < length main → length main < mostBytes
       → badMessage main Checked rs ≡ (eqb (length rs) 0 || leb (mostBytes - 1 - length main) (length rs))
   unfolding badMessage

@@ -30,6 +30,7 @@ unfoldable pub sentWidths : Clock → Bool → List Symbol → List ℕ
 sentWidths c active [] = []
 sentWidths c active (s ∷ symbols) = widthOf (sentOf c active s) ∷ sentWidths c (not active) symbols
 
+-- The widths of symbols and of symbols behind them.
 pub sent-append : (c : Clock) (active : Bool) (a b : List Symbol) → sentWidths c active (a ++ b) ≡ sentWidths c active a ++ sentWidths c (turned active a) b
 unfolding sentWidths
 sent-append c active [] b = refl
@@ -69,6 +70,7 @@ response-sent c Checked rs = ap (λ (l : List ℕ). c .sof .0 ∷ bitWidth c tru
 abbrev pub innerWords : Clock → List ℕ → Response → List ℕ → List ℕ
 innerWords c main kind rs = c .sof .0 ∷ (byteWidths c (withCheck main) ++ responseWidths c kind rs)
 
+-- They are the message's symbols as the clock sends them.
 pub inner-sent : (c : Clock) (main : List ℕ) (kind : Response) (rs : List ℕ) → sentWidths c true (frameSymbols main kind rs) ≡ innerWords c main kind rs
 unfolding sentWidths
 inner-sent c main kind rs =
@@ -82,6 +84,7 @@ unfolding frameWords
 frame-inner c main kind rs =
     ap (λ (l : List ℕ). endWidth .0 ∷ c .sof .0 ∷ l) (sym (append-assoc (byteWidths c (withCheck main)) (responseWidths c kind rs) (endWidth .0 ∷ [])))
 
+-- The same, symbol by symbol.
 pub frame-sent : (c : Clock) (main : List ℕ) (kind : Response) (rs : List ℕ) → frameWords c main kind rs ≡ endWidth .0 ∷ (sentWidths c true (frameSymbols main kind rs) ++ (endWidth .0 ∷ []))
 frame-sent c main kind rs = frame-inner c main kind rs ∙ rw (inner-sent c main kind rs)
 
@@ -91,6 +94,7 @@ symbols-length : (bits : List Bool) → length (bitSymbols bits) ≡ length bits
 symbols-length [] = refl
 symbols-length (b ∷ bits) = ap suc (symbols-length bits)
 
+-- Eight symbols for each byte.
 pub bytes-length : (bs : List ℕ) → length (byteSymbols bs) ≡ 8 * length bs
 bytes-length bs = symbols-length (bitsOf bs) ∙ bits-length bs
 

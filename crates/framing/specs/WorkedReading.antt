@@ -21,6 +21,7 @@ pub record Worked : Type 0 where
 abbrev pub answered : Worked → Outcome
 answered w = reading (w .intervals) (w .position) mostBytes
 
+-- what is written down for it
 abbrev pub expected : Worked → Outcome
 expected w = w .answer
 
@@ -36,6 +37,7 @@ workedReadings =
     ∷ record { intervals = ffff; position = 18; answer = quiet 18 }
     ∷ []
 
+-- The definitions answer what is written down.
 pub readings-worked : map answered workedReadings ≡ map expected workedReadings
 unfolding reading opening decides stands fault checksOut bytes first symbolAt endAt bitsFrom classOf endOf checkOf registerFrom stepOf eightShifts shift
 readings-worked = refl

@@ -53,6 +53,7 @@ pub data Comes (c : Clock) (main : List ℕ) (kind : Response) (rs : List ℕ) (
   isWritten : goodOf c ≡ true → badMessage main kind rs ≡ false → mostWords ≤ lent
       → Comes c main kind rs lent (words (frameWords c main kind rs))
 
+-- Every call comes to one of them.
 pub comes : (c : Clock) (main : List ℕ) (kind : Response) (rs : List ℕ) (lent : ℕ) → Comes c main kind rs lent (writing c main kind rs lent)
 unfolding writing
 comes c main kind rs lent = go (goodOf c) (badMessage main kind rs) (ltb lent mostWords) refl refl refl
@@ -68,10 +69,12 @@ comes c main kind rs lent = go (goodOf c) (badMessage main kind rs) (ltb lent mo
 abbrev pub ClockBad : Clock → Type 0
 ClockBad c = goodOf c ≡ false
 
+-- 37, where the clock is good
 pub record MessageBad (c : Clock) (main : List ℕ) (kind : Response) (rs : List ℕ) : Type 0 where
   pub clock : goodOf c ≡ true
   pub message : badMessage main kind rs ≡ true
 
+-- 32, where the clock is good and the message admitted
 pub record WordsFew (c : Clock) (main : List ℕ) (kind : Response) (rs : List ℕ) (lent : ℕ) : Type 0 where
   pub clock : goodOf c ≡ true
   pub message : badMessage main kind rs ≡ false

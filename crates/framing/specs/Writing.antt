@@ -75,12 +75,14 @@ pub record Count : Type 0 where
   pub number : ℕ
   pub count : ℕ
 
+-- the number and the count of each case of the call's answer
 abbrev pub counted : Writing → Count
 counted (Words n) = record { number = 0; count = n }
 counted BadClock = record { number = 36; count = 0 }
 counted BadMessage = record { number = 37; count = 0 }
 counted FewLentWords = record { number = 32; count = 0 }
 
+-- the number and the count of what writing comes to
 abbrev pub counts : Sheet → Count
 counts (words ws) = record { number = 0; count = length ws }
 counts (turnedAway n) = record { number = n; count = 0 }

@@ -1,1 +1,4 @@
 mod Asked
+mod Handing
+mod Numbered
+mod Verdicts

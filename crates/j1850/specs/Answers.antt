@@ -4,9 +4,8 @@ use Prim.Native.Nat.{ℕ}
 use mathlib.Core.Bool.{Bool, cond, not}
 use mathlib.Core.List.{List}
 use lib.Dec.{eqb, ltb}
-use Rattle.volts.specs.declared.Gate as volts
 use Rattle.volts.specs.Tracing as tracing
-use Rattle.symbol.specs.declared.Clock as symbol
+use Rattle.symbol.specs.declared.Clock.{Clock}
 use Rattle.symbol.specs.declared.Symbol.{Symbol}
 use Rattle.symbol.specs.declared.Symbol.the-variants.{Noise, Bit0, Bit1, Eod, Sof, Eof, Ifs, Break, Stuck}
 use Rattle.symbol.specs.Clocks.{goodOf}
@@ -14,20 +13,13 @@ use Rattle.framing.specs.declared.Response.{Response}
 use Rattle.framing.specs.declared.Response.the-variants.{Without, Plain, Checked}
 use Rattle.framing.specs.Writing as writing
 use Rattle.framing.specs.Answers.{Told}
-use Rattle.j1850.specs.declared.answers.Gate.{Gate}
-use Rattle.j1850.specs.declared.answers.Clock.{Clock}
+use Rattle.text.specs.Calls as text
 use Rattle.j1850.specs.declared.answers.Check.{Check}
 use Rattle.j1850.specs.declared.answers.Class.{Class}
 use Rattle.j1850.specs.declared.answers.Timed.{Timed}
 use Rattle.j1850.specs.declared.answers.Counted.{Counted}
 use Rattle.j1850.specs.declared.answers.Read.{Read}
-
--- a gate and a clock as the rooms below have them
-abbrev pub gateOf : Gate → volts.Gate
-gateOf g = record { offset = g .offset; active = g .active; passive = g .passive }
-
-abbrev pub clockOf : Clock → symbol.Clock
-clockOf c = record { short = record { 0 = c .short }; long = record { 0 = c .long }; sof = record { 0 = c .sof } }
+use Rattle.j1850.specs.declared.answers.Desk.{Desk}
 
 -- the number of each symbol
 abbrev pub symbolNumber : Symbol → ℕ
@@ -41,22 +33,25 @@ symbolNumber Ifs = 6
 symbolNumber Break = 7
 symbolNumber Stuck = 8
 
--- calls that cannot refuse: the number 0, and the check byte, the symbol's number, or whether the clock is good
+-- calls that cannot refuse: the number 0, and the check byte ..
 abbrev pub checkAs : ℕ → Check
 checkAs b = record { number = 0; check = b }
 
+-- .. the symbol's number ..
 abbrev pub classAs : Symbol → Class
 classAs s = record { number = 0; symbol = symbolNumber s }
 
+-- .. whether the clock is good
 abbrev pub timedAs : Bool → Timed
 timedAs g = record { number = 0; good = g }
 
--- the number of each kind of response, and the kind that a number asks for
+-- the number of each kind of response
 abbrev pub kindNumber : Response → ℕ
 kindNumber Without = 0
 kindNumber Plain = 1
 kindNumber Checked = 2
 
+-- the kind that a number asks for
 abbrev pub kindOf : ℕ → Response
 kindOf k = cond (eqb k 0) Without (cond (eqb k 1) Plain Checked)
 
@@ -66,13 +61,15 @@ tracedAs (tracing.wrote n) = record { number = 0; count = n }
 tracedAs (tracing.turnedAway k) = record { number = k; count = 0 }
 
 -- Writing. A kind that is none of the three asks for no message that there is: 37, behind 36 as document 01 has them.
-abbrev pub noSuchKind : symbol.Clock → writing.Sheet
+abbrev pub noSuchKind : Clock → writing.Sheet
 noSuchKind c = cond (not (goodOf c)) (writing.turnedAway 36) (writing.turnedAway 37)
 
+-- what writing comes to, a kind that there is not included
 unfoldable pub sheetOf : Clock → List ℕ → ℕ → List ℕ → ℕ → writing.Sheet
 sheetOf c main kind rs lent =
-    cond (ltb 2 kind) (noSuchKind (clockOf c)) (writing.writing (clockOf c) main (kindOf kind) rs lent)
+    cond (ltb 2 kind) (noSuchKind c) (writing.writing c main (kindOf kind) rs lent)
 
+-- the writer's number and count
 abbrev pub countedAs : writing.Count → Counted
 countedAs n = record { number = n .number; count = n .count }
 
@@ -87,3 +84,7 @@ readAs t =
       main = t .mainLength;
       response = t .responseLength;
     }
+
+-- what the desk tells: its number, the first bad line, and how many bytes of text were laid
+abbrev pub deskAs : text.Told → Desk
+deskAs t = record { number = t .number; line = t .line; length = t .length }

@@ -4,30 +4,16 @@ ghost use mathlib.Core.Path.{_≡_};
 ghost use Rattle.volts.specs.Tracing.{numbered};
 ghost use Rattle.framing.specs.Answers.{faultNumber, told, bare as bareTold};
 ghost use Rattle.framing.specs.Writing.{counted, counts};
-ghost use Rattle.j1850.specs.Answers.{clockOf, symbolNumber, kindNumber, kindOf, tracedAs, noSuchKind, countedAs, readAs};
+ghost use Rattle.text.specs.Calls.{answeredTold};
+ghost use Rattle.j1850.specs.Answers.{symbolNumber, kindNumber, kindOf, tracedAs, noSuchKind, countedAs, readAs, deskAs};
 use framing::Fault;
 use framing::Reading;
 use framing::Response;
 use framing::Writing;
+use symbol::Clock;
 use symbol::Symbol;
-use units::Micros;
+use text::Answered;
 use volts::Traced;
-
-// A channel's gate, in volts.
-#[repr(C)]
-pub struct Gate {
-    pub offset: f32,
-    pub active: f32,
-    pub passive: f32,
-}
-
-// A clock: the widths in microseconds of a short bit, a long bit, and a SOF or EOD.
-#[repr(C)]
-pub struct Clock {
-    pub short: u32,
-    pub long: u32,
-    pub sof: u32,
-}
 
 // The check byte of some bytes.
 #[repr(C)]
@@ -68,6 +54,14 @@ pub struct Read {
     pub response: usize,
 }
 
+// What the desk answers: how many bytes of text were laid, and where the input is bad its first bad line.
+#[repr(C)]
+pub struct Desk {
+    pub number: u32,
+    pub line: usize,
+    pub length: usize,
+}
+
 // The numbers of the kinds of response.
 const WITHOUT: u32 = 0;
 
@@ -96,6 +90,11 @@ const BAD_CLOCK: u32 = 36;
 
 const BAD_MESSAGE: u32 = 37;
 
+// The desk's own two numbers: too little lent, and a bad input.
+const LITTLE_LENT: u32 = 61;
+
+const BAD_INPUT: u32 = 62;
+
 // The number of a symbol.
 pub fn symbol_number(symbol: Symbol) -> u32
     ensures { λ r. ⌜ r ≡ symbolNumber symbol ⌝ }
@@ -110,17 +109,6 @@ pub fn symbol_number(symbol: Symbol) -> u32
         Symbol::Ifs => 6,
         Symbol::Break => 7,
         Symbol::Stuck => 8,
-    }
-}
-
-// A clock as the rooms below have it, its widths under a type of their own.
-pub fn clock_of(clock: Clock) -> symbol::Clock
-    ensures { λ r. ⌜ r ≡ clockOf clock ⌝ }
-{
-    symbol::Clock {
-        short: Micros(clock.short),
-        long: Micros(clock.long),
-        sof: Micros(clock.sof),
     }
 }
 
@@ -153,7 +141,7 @@ pub fn traced(answer: Traced) -> Counted
 }
 
 // A message of a kind that there is not: a bad clock is told before it.
-pub fn no_such_kind(clock: symbol::Clock) -> Counted
+pub fn no_such_kind(clock: Clock) -> Counted
     ensures { λ r. ⌜ r ≡ countedAs (counts (noSuchKind clock)) ⌝ }
 {
     if symbol::good_clock(clock) {
@@ -272,5 +260,28 @@ pub fn fault_number(fault: Fault) -> u32
         Fault::WrongCheck => 18,
         Fault::EodAfterResponse => 19,
         Fault::ThirteenthByte => 20,
+    }
+}
+
+// What the desk answers.
+pub fn desk_as(answer: Answered) -> Desk
+    ensures { λ r. ⌜ r ≡ deskAs (answeredTold answer) ⌝ }
+{
+    match answer {
+        Answered::Report { length } => Desk {
+            number: DONE,
+            line: 0,
+            length,
+        },
+        Answered::Refused { line, length } => Desk {
+            number: BAD_INPUT,
+            line,
+            length,
+        },
+        Answered::FewLent => Desk {
+            number: LITTLE_LENT,
+            line: 0,
+            length: 0,
+        },
     }
 }

@@ -1,6 +1,8 @@
 // The open calls for C, Rust and Python; include/j1850.h says what each takes and answers. Each call hands its arguments
 // to the room that does the work and gives that room's answer as numbers, document 01's number first.
 mod answers;
+mod contests;
+mod row;
 
 ghost use mathlib.Core.Path.{_≡_};
 ghost use lib.ListN.{length};
@@ -12,18 +14,20 @@ ghost use Rattle.volts.specs.Intervals.{intervalsOf};
 ghost use Rattle.framing.specs.Reading.{reading};
 ghost use Rattle.framing.specs.Answers.{tells, lentAfter};
 ghost use Rattle.framing.specs.Writing.{counts, wordsAfter};
-ghost use Rattle.j1850.specs.Answers.{gateOf, clockOf, checkAs, classAs, timedAs, tracedAs, sheetOf, countedAs, readAs};
+ghost use Rattle.text.specs.Calls.{answering, pageTells, lentShort, laidWords, laidText, laidOn};
+ghost use Rattle.j1850.specs.Answers.{checkAs, classAs, timedAs, tracedAs, sheetOf, countedAs, readAs, deskAs};
 use answers::CHECKED;
 use answers::Check;
 use answers::Class;
-use answers::Clock;
 use answers::Counted;
 use answers::DONE;
-use answers::Gate;
+use answers::Desk;
 use answers::Read;
 use answers::Timed;
+use symbol::Clock;
 use units::Micros;
 use units::Place;
+use volts::Gate;
 
 // The check byte that is sent behind some bytes.
 #[no_mangle]
@@ -52,24 +56,19 @@ pub extern "C" fn j1850_class(active: bool, width: u32) -> Class
 // Whether all three widths of a clock lie in the sending windows.
 #[no_mangle]
 pub extern "C" fn j1850_good_clock(clock: Clock) -> Timed
-    ensures { λ r. ⌜ r ≡ timedAs (goodOf (clockOf clock)) ⌝ }
+    ensures { λ r. ⌜ r ≡ timedAs (goodOf clock) ⌝ }
 {
-    let good = symbol::good_clock(answers::clock_of(clock));
+    let good = symbol::good_clock(clock);
     Timed { number: DONE, good }
 }
 
 // The intervals of a trace of samples, into lent words, one more than the samples.
 #[no_mangle]
 pub extern "C" fn j1850_intervals(gate: Gate, samples: &[f32], words: &mut [u32]) -> Counted
-    ensures { λ r. ⌜ r ≡ tracedAs (outcome (gateOf gate) (now (samples .entry)) (now (words .entry))) ⌝ }
-    ensures { λ _. ⌜ now (words .exit) ≡ tracedWords (outcome (gateOf gate) (now (samples .entry)) (now (words .entry))) (intervalsOf (gateOf gate) (now (samples .entry))) (now (words .entry)) ⌝ }
+    ensures { λ r. ⌜ r ≡ tracedAs (outcome gate (now (samples .entry)) (now (words .entry))) ⌝ }
+    ensures { λ _. ⌜ now (words .exit) ≡ tracedWords (outcome gate (now (samples .entry)) (now (words .entry))) (intervalsOf gate (now (samples .entry))) (now (words .entry)) ⌝ }
 {
-    let inner = volts::Gate {
-        offset: gate.offset,
-        active: gate.active,
-        passive: gate.passive,
-    };
-    answers::traced(volts::intervals(inner, samples, words))
+    answers::traced(volts::intervals(gate, samples, words))
 }
 
 // Writes the frame of a message, at a clock, into lent words. A kind that is none of the three is turned away as a bad
@@ -85,11 +84,10 @@ pub extern "C" fn j1850_write(
     ensures { λ r. ⌜ r ≡ countedAs (counts (sheetOf clock (now (main .entry)) kind (now (response .entry)) (length (now (words .entry))))) ⌝ }
     ensures { λ _. ⌜ now (words .exit) ≡ wordsAfter (sheetOf clock (now (main .entry)) kind (now (response .entry)) (length (now (words .entry)))) (now (words .entry)) ⌝ }
 {
-    let inner = answers::clock_of(clock);
     if kind > CHECKED {
-        return answers::no_such_kind(inner);
+        return answers::no_such_kind(clock);
     }
-    answers::written(frame::write(inner, main, answers::kind_of(kind), response, words))
+    answers::written(frame::write(clock, main, answers::kind_of(kind), response, words))
 }
 
 // Reads the first frame from a position of a recording on; its bytes go into lent bytes, at least 12.
@@ -99,4 +97,14 @@ pub extern "C" fn j1850_read(intervals: &[u32], from: usize, bytes: &mut [u8]) -
     ensures { λ _. ⌜ now (bytes .exit) ≡ lentAfter (reading (now (intervals .entry)) from (length (now (bytes .entry)))) (now (bytes .entry)) ⌝ }
 {
     answers::read_as(frame::read(intervals, Place(from), bytes))
+}
+
+// The desk's whole text for an input, into lent bytes; the input's widths go into lent words.
+#[no_mangle]
+pub extern "C" fn j1850_desk(input: &[u8], words: &mut [u32], text: &mut [u8]) -> Desk
+    ensures { λ r. ⌜ r ≡ deskAs (pageTells (answering (now (input .entry)) (length (now (words .entry))) (length (now (text .entry))))) ⌝ }
+    ensures { λ _. ⌜ now (words .exit) ≡ laidOn (laidWords (lentShort (length (now (words .entry))) (length (now (text .entry)))) (now (input .entry))) (now (words .entry)) ⌝ }
+    ensures { λ _. ⌜ now (text .exit) ≡ laidOn (laidText (lentShort (length (now (words .entry))) (length (now (text .entry)))) (now (input .entry))) (now (text .entry)) ⌝ }
+{
+    answers::desk_as(report::desk(input, words, text))
 }

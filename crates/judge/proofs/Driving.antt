@@ -1,23 +1,22 @@
 -- The loop over the later lines: what is taken so far and what the lines left come to is what all of them come to.
-use Prim.Native.Nat.{ℕ, zero, suc, _+_, _-_, _≤_, _<_}
+use Prim.Native.Nat.{ℕ, _+_, _-_, _≤_, _<_}
 use mathlib.Core.Path.{_≡_, refl, sym, ap, _∙_}
-use mathlib.Core.Bool.{Bool, true, false, cond, _&&_, and-false}
+use mathlib.Core.Bool.{Bool, true, false, and-false}
 use mathlib.Core.List.{List, [], _∷_}
 use native.Mathlib.Numerals.{add-one}
 use native.Mathlib.Omega.{arith}
-use lib.Dec.{leb}
 use lib.ListN.{length, take, drop, set, length-set, length-drop}
 use lib.Seq.{sets}
 use borrow.Author.Tests.{le-leb, lt-leb}
 use Rattle.bytes.specs.Bytes.{indexOf, slice}
-use Rattle.laws.specs.Tests.{never}
 use Rattle.text.specs.Grammar.{newline, spelt}
 use Rattle.text.specs.Input.{Line, shut, unshut, lines, field, ivLine, ivAt, mostWidths, badFrom, widthsFrom}
 use Rattle.text.specs.PieceLaws.{lines-first, lines-none}
-use Rattle.judge.specs.declared.Width.{Width}
-use Rattle.judge.specs.declared.Width.the-variants.{Of, Not}
+use Rattle.field.specs.declared.Width.{Width}
+use Rattle.field.specs.declared.Width.the-variants.{Of, Not}
 use Rattle.judge.specs.declared.Taken.{Taken}
-use Rattle.judge.specs.Found.{widthBy, ivOf, Taking}
+use Rattle.judge.specs.Found.{ivOf, Taking}
+use Rattle.field.specs.Widths.{widthBy}
 use Rattle.judge.proofs.Fields.{rest-all, found}
 
 -- k widths are laid, and the lines of t are left

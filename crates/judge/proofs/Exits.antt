@@ -1,14 +1,13 @@
 -- How the first line and the lines behind it decide the promise of judging: a law for each way out.
-use Prim.Native.Nat.{ℕ, suc, _+_, _-_, _≤_, _<_}
-use mathlib.Core.Path.{_≡_, refl, sym, ap, _∙_}
+use Prim.Native.Nat.{ℕ, _+_, _-_, _≤_, _<_}
+use mathlib.Core.Path.{_≡_, refl, sym, _∙_}
 use mathlib.Core.Bool.{Bool, true, false, cond}
-use mathlib.Core.List.{List, [], _∷_, _++_}
+use mathlib.Core.List.{List, [], _∷_}
 use mathlib.Core.Logic.{_⊎_, inl, inr}
 use native.Mathlib.Numerals.{add-one}
 use native.Mathlib.Omega.{arith}
-use lib.Dec.{eqb, ltb}
+use lib.Dec.{eqb}
 use lib.ListN.{length, take, drop}
-use lib.Seq.{sets}
 use borrow.Author.Tests.{lt-ltb, le-ltb, eq-eqb, ne-eqb}
 use Rattle.bytes.specs.Bytes.{indexOf, slice}
 use Rattle.laws.specs.Lent.{sets-first}
@@ -19,7 +18,7 @@ use Rattle.text.specs.declared.Judged.the-variants.{Good, Bad, FewLentWords}
 use Rattle.text.specs.Grammar.{newline}
 use Rattle.text.specs.Input.{Line, shut, unshut, lines, field, ownLine, mostWidths, badFrom, widthsFrom, firstBad, recordingOf}
 use Rattle.text.specs.PieceLaws.{lines-first, lines-none}
-use Rattle.text.specs.Calls.{Verdict, good, bad, few, verdictBy, judging, judgedTold, verdictTells, laidOn, laidWords, JudgePromise}
+use Rattle.text.specs.Calls.{good, bad, few, verdictBy, judging, judgedTold, verdictTells, laidOn, JudgePromise}
 use Rattle.judge.specs.declared.Own.{Own}
 use Rattle.judge.specs.declared.Own.the-variants.{Of as Two, Not as None}
 use Rattle.judge.specs.declared.Taken.{Taken}

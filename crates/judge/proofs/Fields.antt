@@ -1,7 +1,7 @@
 -- How the place of a tab decides what a line is: a law for each way out of the functions that judge one line.
-use Prim.Native.Nat.{ℕ, suc, _+_, _-_, _≤_, _<_}
+use Prim.Native.Nat.{ℕ, suc, _+_, _-_, _≤_}
 use mathlib.Core.Path.{_≡_, refl, sym, ap, _∙_}
-use mathlib.Core.Bool.{Bool, true, false, not, cond, _&&_, and-false}
+use mathlib.Core.Bool.{Bool, true, false, not, _&&_, and-false}
 use mathlib.Core.List.{List, [], _∷_}
 use native.Mathlib.Numerals.{add-one}
 use native.Mathlib.Omega.{arith}
@@ -10,14 +10,15 @@ use lib.ListN.{length, take, drop, length-drop}
 use lib.Seq.{take-all, length-take-le}
 use borrow.Author.Tests.{not-true, not-false, eq-eqb, ne-eqb, eqb-true, eqb-false}
 use Rattle.bytes.specs.Bytes.{indexOf, slice}
-use Rattle.text.specs.Grammar.{tab, pieces, fields, every, same, labelByte, isLabel, digit, spelt, isWidth}
-use Rattle.text.specs.Input.{shut, own, iv, ivLine, ownLine}
+use Rattle.text.specs.Grammar.{tab, fields, same, labelByte, isLabel, digit, isWidth}
+use Rattle.text.specs.Input.{own, iv, ivLine, ownLine}
 use Rattle.text.specs.PieceLaws.{pieces-first, pieces-none, Shape, one, several, shape}
-use Rattle.judge.specs.declared.Width.{Width}
-use Rattle.judge.specs.declared.Width.the-variants.{Of, Not}
+use Rattle.field.specs.declared.Width.{Width}
+use Rattle.field.specs.declared.Width.the-variants.{Not}
 use Rattle.judge.specs.declared.Own.{Own}
 use Rattle.judge.specs.declared.Own.the-variants.{Of as Two, Not as None}
-use Rattle.judge.specs.Found.{widthBy, ownBy, widthOf, ivOf, ownOf, labelsOf}
+use Rattle.judge.specs.Found.{ownBy, ivOf, ownOf, labelsOf}
+use Rattle.field.specs.Widths.{widthOf}
 
 -- the part from a on, as `&s[a..]` gives it
 pub rest-all : (s : List ℕ) (a : ℕ) → take (length s - a) (drop a s) ≡ drop a s

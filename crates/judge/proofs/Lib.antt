@@ -1,4 +1,3 @@
-pub mod Leaves
 pub mod Fields
 pub mod Driving
 pub mod Exits

@@ -1,50 +1,40 @@
 -- What the steps of judging find, told by the definitions of the room below.
-use Prim.Native.Nat.{ℕ, _+_, _≤_}
+use Prim.Native.Nat.{ℕ, _≤_}
 use mathlib.Core.Path.{_≡_}
 use mathlib.Core.Bool.{Bool, true, false, _&&_}
 use mathlib.Core.List.{List, []}
-use lib.Dec.{ltb, eqb}
+use lib.Dec.{eqb}
 use lib.ListN.{length, getD}
 use lib.Seq.{sets}
 use Rattle.text.specs.declared.Labels.{Labels}
 use Rattle.text.specs.declared.Judged.{Judged}
-use Rattle.text.specs.Grammar.{fields, every, digit, spelt, pastU32, isLabel, isWidth}
-use Rattle.text.specs.Input.{Line, shut, lines, field, ownLine, ivLine, mostWidths, badFrom, widthsFrom}
+use Rattle.text.specs.Grammar.{fields, spelt, isLabel}
+use Rattle.text.specs.Input.{shut, lines, field, ownLine, ivLine, mostWidths, badFrom, widthsFrom}
 use Rattle.text.specs.declared.Judged.the-variants.{Good, Bad}
-use Rattle.judge.specs.declared.Width.{Width}
-use Rattle.judge.specs.declared.Width.the-variants.{Of, Not}
+use Rattle.field.specs.declared.Width.{Width}
+use Rattle.field.specs.Widths.{widthBy}
 use Rattle.judge.specs.declared.Own.{Own}
 use Rattle.judge.specs.declared.Own.the-variants.{Of as Two, Not as None}
 use Rattle.judge.specs.declared.Taken.{Taken}
-
--- a width where a test holds
-abbrev pub widthBy : Bool → ℕ → Width
-widthBy true n = Of n
-widthBy false n = Not
 
 -- the labels where a test holds, by their lengths
 abbrev pub ownBy : Bool → List ℕ → List ℕ → Own
 ownBy true c v = Two (record { customer = length c; vehicle = length v })
 ownBy false c v = None
 
--- digits that spell a u32
-unfoldable pub numberOf : List ℕ → Width
-numberOf l = widthBy (every digit l && ltb (spelt l) pastU32) (spelt l)
-
-unfoldable pub widthOf : List ℕ → Width
-widthOf l = widthBy (isWidth l) (spelt l)
-
--- the bytes of a line, which a newline closes, as an `iv` line and as an `own` line
+-- the bytes of a line, which a newline closes, as an `iv` line ..
 unfoldable pub ivOf : List ℕ → Width
 ivOf l = widthBy (ivLine (shut l)) (spelt (field 1 (shut l)))
 
+-- .. and as an `own` line
 unfoldable pub ownOf : List ℕ → Own
 ownOf l = ownBy (ownLine (shut l)) (field 1 (shut l)) (field 2 (shut l))
 
--- two fields that are labels
+-- a field, counted from 0
 abbrev pub fieldOf : ℕ → List ℕ → List ℕ
 fieldOf k l = getD (fields l) k []
 
+-- two fields that are labels
 unfoldable pub labelsOf : List ℕ → Own
 labelsOf l = ownBy (eqb (length (fields l)) 2 && (isLabel (fieldOf 0 l) && isLabel (fieldOf 1 l))) (fieldOf 0 l) (fieldOf 1 l)
 
@@ -60,6 +50,7 @@ abbrev pub judgedBy : Bool → Labels → ℕ → ℕ → Judged
 judgedBy true labels widths line = Good labels widths
 judgedBy false labels widths line = Bad line
 
+-- The answer behind a good first line with these labels, and the lent words.
 pub record Behind (labels : Labels) (s entry exit : List ℕ) (r : Judged) : Type 0 where
   pub answer : r ≡ judgedBy (eqb (badFrom 2 (lines s)) 0) labels (length (widthsFrom 2 (lines s))) (badFrom 2 (lines s))
   pub laid : exit ≡ sets entry 0 (widthsFrom 2 (lines s))

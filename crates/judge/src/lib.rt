@@ -1,13 +1,15 @@
 // Judging the desk's input: its labels and widths, or the number of its first bad line. What a good line is, and which line
 // is the first bad one, is defined in the room below.
 ghost use mathlib.Core.Path.{_≡_};
-ghost use Prim.Native.Nat.{_+_, _≤_, _<_};
-ghost use mathlib.Core.Bool.{true, false};
+ghost use Prim.Native.Nat.{_≤_};
 ghost use lib.ListN.{length};
-ghost use Rattle.text.specs.Grammar.{among as amongOf, every, labelByte, isLabel, same as sameOf, pastU32};
 ghost use Rattle.text.specs.Input.{mostWidths};
 ghost use Rattle.text.specs.Calls.{JudgePromise};
-ghost use Rattle.judge.specs.Found.{numberOf, widthOf, ivOf, labelsOf, ownOf, Taking, Behind};
+ghost use Rattle.judge.specs.Found.{ivOf, labelsOf, ownOf, Taking, Behind};
+use field::Width;
+use field::is_label;
+use field::same;
+use field::width_in;
 use text::Judged;
 use text::Labels;
 
@@ -16,22 +18,10 @@ const NEWLINE: u8 = 10;
 
 const TAB: u8 = 9;
 
-// The most bytes of a label.
-const MOST_LABEL: usize = 16;
-
 // The most widths of an input, each on a line of its own; and the number of the first such line.
 const MOST_WIDTHS: usize = 16384;
 
 const FIRST_WIDTH_LINE: usize = 2;
-
-// One more than the greatest u32.
-const PAST_U32: u64 = 4294967296;
-
-// A width that is found where one should stand, or none.
-enum Width {
-    Of(u32),
-    Not,
-}
 
 // The labels of a first line, or none.
 enum Own {
@@ -43,129 +33,6 @@ enum Own {
 struct Taken {
     widths: usize,
     line: usize,
-}
-
-fn among(low: u8, high: u8, x: u8) -> bool
-    ensures { λ r. ⌜ r ≡ amongOf low high x ⌝ }
-{
-    if x < low {
-        return false;
-    }
-    x <= high
-}
-
-// A letter, a digit, `-` or `_`.
-fn label_byte(x: u8) -> bool
-    ensures { λ r. ⌜ r ≡ labelByte x ⌝ }
-{
-    if among(b'a', b'z', x) {
-        return true;
-    }
-    if among(b'A', b'Z', x) {
-        return true;
-    }
-    if among(b'0', b'9', x) {
-        return true;
-    }
-    if x == b'-' {
-        return true;
-    }
-    x == b'_'
-}
-
-fn label_bytes(s: &[u8]) -> bool
-    ensures { λ r. ⌜ r ≡ every labelByte (now (s .entry)) ⌝ }
-{
-    let mut i = 0;
-    while i < s.len() {
-        if !label_byte(s[i]) {
-            return false;
-        }
-        i += 1;
-    }
-    true
-}
-
-// 1 to 16 letters, digits, `-` or `_`.
-fn is_label(s: &[u8]) -> bool
-    ensures { λ r. ⌜ r ≡ isLabel (now (s .entry)) ⌝ }
-{
-    if s.len() < 1 {
-        return false;
-    }
-    if s.len() > MOST_LABEL {
-        return false;
-    }
-    label_bytes(s)
-}
-
-// Whether two texts are the same.
-fn same(a: &[u8], b: &[u8]) -> bool
-    ensures { λ r. ⌜ r ≡ sameOf (now (a .entry)) (now (b .entry)) ⌝ }
-{
-    if a.len() != b.len() {
-        return false;
-    }
-    let mut i = 0;
-    while i < a.len() {
-        if a[i] != b[i] {
-            return false;
-        }
-        i += 1;
-    }
-    true
-}
-
-fn wide(x: u8) -> u64
-    ensures { λ r. ⌜ r ≡ x ⌝ }
-{
-    x as u64
-}
-
-fn narrow(x: u64) -> u32
-    requires { ⌜ x < pastU32 ⌝ }
-    ensures { λ r. ⌜ r ≡ x ⌝ }
-{
-    x as u32
-}
-
-// The number that the bytes spell, where all are digits and a u32 holds it.
-fn number(s: &[u8]) -> Width
-    ensures { λ r. ⌜ r ≡ numberOf (now (s .entry)) ⌝ }
-{
-    let mut n: u64 = 0;
-    let mut i = 0;
-    while i < s.len() {
-        let x = s[i];
-        if x < b'0' {
-            return Width::Not;
-        }
-        if x > b'9' {
-            return Width::Not;
-        }
-        n = n * 10 + wide(x - b'0');
-        if n >= PAST_U32 {
-            return Width::Not;
-        }
-        i += 1;
-    }
-    Width::Of(narrow(n))
-}
-
-// A width: at least one digit, and no leading zero.
-fn width_in(s: &[u8]) -> Width
-    ensures { λ r. ⌜ r ≡ widthOf (now (s .entry)) ⌝ }
-{
-    if s.len() == 0 {
-        return Width::Not;
-    }
-    if s.len() == 1 {
-        return number(s);
-    }
-    if s[0] == b'0' {
-        return Width::Not;
-    }
-    number(s)
 }
 
 // The width of a line `iv`, tab, width, given without its newline.

@@ -1,5 +1,5 @@
 -- Lent memory that is written from some place on: `sets l i vs` is the list l with vs laid over it from place i.
-use mathlib.Core.Path.{_≡_, refl, ap, sym, _∙_}
+use mathlib.Core.Path.{_≡_, ap, _∙_}
 use mathlib.Core.List.{List, [], _∷_, _++_}
 use Prim.Native.Nat.{ℕ, suc, _+_, _≤_}
 use native.Mathlib.Nat.{add-zero, zero-add}
@@ -17,17 +17,3 @@ sets-then l i (a ∷ s) t =
 -- What is laid from the start stands first, and the rest is unchanged.
 pub sets-first : {A : Type 0} (l vs : List A) → length vs ≤ length l → sets l 0 vs ≡ vs ++ drop (length vs) l
 sets-first l vs h = sets-eq vs l 0 (omega arith) ∙ ap (λ (k : ℕ). vs ++ drop k l) (zero-add (length vs))
-
--- Eight stores, one behind the other.
-pub sets-eight : {A : Type 0} (l : List A) (i : ℕ) (a b c d e f g h : A)
-    → set (set (set (set (set (set (set (set l i a) (i + 1) b) (i + 2) c) (i + 3) d) (i + 4) e) (i + 5) f) (i + 6) g) (i + 7) h
-    ≡ sets l i (a ∷ b ∷ c ∷ d ∷ e ∷ f ∷ g ∷ h ∷ [])
-sets-eight l i a b c d e f g h =
-    let p1 : i + 1 ≡ suc i = omega arith in
-    let p2 : i + 2 ≡ suc (suc i) = omega arith in
-    let p3 : i + 3 ≡ suc (suc (suc i)) = omega arith in
-    let p4 : i + 4 ≡ suc (suc (suc (suc i))) = omega arith in
-    let p5 : i + 5 ≡ suc (suc (suc (suc (suc i)))) = omega arith in
-    let p6 : i + 6 ≡ suc (suc (suc (suc (suc (suc i))))) = omega arith in
-    let p7 : i + 7 ≡ suc (suc (suc (suc (suc (suc (suc i)))))) = omega arith in
-    rw (p1, p2, p3, p4, p5, p6, p7)

@@ -2,3 +2,4 @@ pub mod Settled
 pub mod Tests
 pub mod Each
 pub mod Lent
+pub mod Walk

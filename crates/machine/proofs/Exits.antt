@@ -13,7 +13,7 @@ use Rattle.machine.specs.declared.Phase.the-variants.{Main}
 use Rattle.machine.specs.declared.Machine.{Machine}
 use Rattle.machine.specs.declared.Stepped.{Stepped}
 use Rattle.machine.specs.declared.Event.the-variants.{Going, Byte}
-use Rattle.machine.specs.declared.Asked.{Asked}
+use Rattle.machine.specs.declared.shut.Asked.{Asked}
 use Rattle.machine.specs.Steps.{faulty, closing, begun, pushOf, responseBegun, partOf, sofPhase, bitOf, sofOf, askedOf, eodOf, closeOf}
 
 -- The bytes of a part, counted without a sum that might not fit.

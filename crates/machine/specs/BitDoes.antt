@@ -110,6 +110,7 @@ abbrev bitSymbol : Bool → Symbol
 bitSymbol true = Bit1
 bitSymbol false = Bit0
 
+-- A bit's width, from every standing.
 pub bit-does : (st : Standing) (one : Bool) → length (soFar st) ≤ mostBytes → Does st (bitSymbol one) (bitOf (holding st) one)
 unfolding bitOf fault holding leftOver behind registerFrom bytes
 bit-does atSof true h = faults NoSof refl refl

@@ -108,6 +108,7 @@ shut-does st s eod n row on =
 pub eof-does : (st : Standing) → Does st Eof (closeOf (holding st) false)
 eof-does st = shut-does st Eof false 0 (eof-rows st) (λ e. closes (eof-rows st ∙ e) refl refl)
 
+-- The other end, an IFS, does the same.
 pub ifs-does : (st : Standing) → Does st Ifs (closeOf (holding st) false)
 ifs-does st = shut-does st Ifs false 0 (ifs-rows st) (λ e. closes (ifs-rows st ∙ e) refl refl)
 
@@ -120,5 +121,6 @@ behind-eod (atNormalization m) f = goes f refl (rw (append-nil (bytes m))) refl
 behind-eod (inResponse plain m r) f = faults EodAfterResponse f refl
 behind-eod (inResponse checked m r) f = faults EodAfterResponse f refl
 
+-- An EOD, from every standing.
 pub eod-does : (st : Standing) → Does st Eod (closeOf (holding st) true)
 eod-does st = shut-does st Eod true (cond (facts st .responding) 19 0) (eod-rows st) (λ e. behind-eod st (eod-rows st ∙ e))

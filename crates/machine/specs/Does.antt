@@ -17,6 +17,7 @@ use Rattle.machine.specs.declared.Event.the-variants.{Going, Byte}
 use Rattle.machine.specs.Steps.{faulty, closing}
 use Rattle.machine.specs.Holding.{holding, soFar}
 
+-- it is at fault, it closes the frame, it leaves the bytes as they are, or it brings a byte more
 pub data Does (st : Standing) (s : Symbol) (r : Stepped) : Type 0 where
   faults : (f : Fault) → fault st s ≡ faultNumber f → r ≡ faulty (holding st) f → Does st s r
   closes : fault st s ≡ 0 → ends s ≡ true → r ≡ closing (holding st) → Does st s r

@@ -37,6 +37,7 @@ abbrev pub holdingBy : Phase → List Bool → List ℕ → List ℕ → Machine
 holdingBy phase part before all =
     record { phase = phase; partial = behind 1 (leftOver part); count = length all; began = length before; register = registerOf (bytes part) }
 
+-- the machine that holds what stands before an interval
 unfoldable pub holding : Standing → Machine
 holding st = holdingBy (phaseOf st) (facts st .part) (earlier st) (soFar st)
 

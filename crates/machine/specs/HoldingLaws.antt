@@ -10,6 +10,7 @@ use Rattle.framing.specs.Standing.{plain, checked, Standing, atSof, inMain, atN
 use Rattle.framing.specs.Faults.{mostBytes, partBytes}
 use Rattle.machine.specs.Holding.{earlier, soFar, holding, Kept}
 
+-- It counts the bytes of both parts so far.
 pub count-of : (st : Standing) → holding st .count ≡ length (soFar st)
 unfolding holding
 count-of st = refl
@@ -28,5 +29,6 @@ pub began-within : (st : Standing) → holding st .began ≤ holding st .count
 unfolding holding
 began-within st = omega (arith, ap length (parts st) ∙ length-append (earlier st) (partBytes st))
 
+-- What is kept so far is no more than twelve bytes.
 pub few-so-far : (st : Standing) (kept : List ℕ) → Kept st kept → length (soFar st) ≤ mostBytes
 few-so-far st kept h = omega (arith, h .room, simp length-take at (ap length (h .first)))

@@ -54,6 +54,7 @@ last-judged bs c small = go (eqb c (checkOf bs)) refl
     go false e =
         sym (ne-eqb (registerOf (bs ++ (c ∷ []))) residue (λ r. eqb-false c (checkOf bs) e (residue-only bs c small r)))
 
+-- Of the bytes that bits make, the register ends at 0xC4 exactly where the last is their check byte.
 pub checks-residue : (bits : List Bool) → 1 ≤ length (bytes bits) → checksOut (bytes bits) ≡ eqb (registerOf (bytes bits)) residue
 unfolding checksOut
 checks-residue bits h =

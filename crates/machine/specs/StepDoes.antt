@@ -30,6 +30,7 @@ sof-does (atNormalization m) = faults LateSof refl refl
 sof-does (inResponse plain m r) = faults LateSof refl refl
 sof-does (inResponse checked m r) = faults LateSof refl refl
 
+-- The step does what document 01 says, from every standing and by every symbol.
 pub step-does : (st : Standing) (s : Symbol) → length (soFar st) ≤ mostBytes → Does st s (stepOf (holding st) s)
 unfolding fault
 step-does st NoiseWidth h = faults Noise refl refl

@@ -14,7 +14,7 @@ use Rattle.machine.specs.declared.Phase.the-variants.{Sof, Main, Normali
 use Rattle.machine.specs.declared.Machine.{Machine}
 use Rattle.machine.specs.declared.Event.the-variants.{Going, Byte, Closed, Faulty}
 use Rattle.machine.specs.declared.Stepped.{Stepped}
-use Rattle.machine.specs.declared.Asked.{Asked}
+use Rattle.machine.specs.declared.shut.Asked.{Asked}
 use Rattle.machine.specs.declared.Meaning.{Meaning}
 use Rattle.machine.specs.declared.Meaning.the-variants.{Bit, Shut, Sof as Start, Wrong}
 
@@ -22,12 +22,15 @@ use Rattle.machine.specs.declared.Meaning.the-variants.{Bit, Shut, Sof a
 abbrev pub fresh : Machine
 fresh = record { phase = Sof; partial = 1; count = 0; began = 0; register = allOnes }
 
+-- the interval is at fault
 abbrev pub faulty : Machine → Fault → Stepped
 faulty m f = record { machine = m; event = Faulty f }
 
+-- the interval closes the frame
 abbrev pub closing : Machine → Stepped
 closing m = record { machine = m; event = Closed }
 
+-- the next part begins behind the interval, with a register of its own
 abbrev pub begun : Machine → Phase → Stepped
 begun m p =
     record { machine = record { phase = p; partial = 1; count = m .count; began = m .count; register = allOnes }; event = Going }
@@ -45,12 +48,15 @@ pushed m bits =
       event = Byte (bits - 256);
     })
 
+-- the same in a frame that may be full: twelve whole bytes take no bit more
 unfoldable pub pushOf : Machine → Bool → Stepped
 pushOf m one = cond (leb mostBytes (m .count)) (faulty m ThirteenthByte) (pushed m (m .partial * 2 + value one))
 
+-- the normalization bit: a short one, which is a 1, begins a plain response
 abbrev pub responseBegun : Machine → Bool → Stepped
 responseBegun m one = cond one (begun m Plain) (begun m Checked)
 
+-- the phases in which bits belong to a byte
 abbrev pub partOf : Phase → Bool
 partOf Sof = false
 partOf Normalization = false
@@ -58,6 +64,7 @@ partOf Main = true
 partOf Plain = true
 partOf Checked = true
 
+-- the SOF's phase
 abbrev pub sofPhase : Phase → Bool
 sofPhase Sof = true
 sofPhase Normalization = false
@@ -65,15 +72,19 @@ sofPhase Main = false
 sofPhase Plain = false
 sofPhase Checked = false
 
+-- a bit's width, by where it stands
 unfoldable pub bitOf : Machine → Bool → Stepped
 bitOf m one = cond (partOf (m .phase)) (pushOf m one) (cond (sofPhase (m .phase)) (faulty m NoSof) (responseBegun m one))
 
+-- the SOF's width: the SOF, or a fault anywhere behind it
 unfoldable pub sofOf : Machine → Stepped
 sofOf m = cond (sofPhase (m .phase)) (begun m Main) (faulty m LateSof)
 
+-- what is asked of a part at its EOD or end
 abbrev pub asking : ℕ → Bool → Asked
 asking fewest checked = record { fewest = fewest; checked = checked }
 
+-- that of each part; nothing is asked where no EOD or end can stand
 abbrev pub askedOf : Phase → Asked
 askedOf Sof = asking 0 false
 askedOf Normalization = asking 0 false
@@ -81,6 +92,7 @@ askedOf Main = asking 2 true
 askedOf Plain = asking 1 false
 askedOf Checked = asking 2 true
 
+-- an EOD that is not at fault itself: a response may follow the main part, and nothing follows a response
 abbrev pub eodIn : Phase → Machine → Stepped
 eodIn Sof m = begun m Main
 eodIn Normalization m = begun m Checked
@@ -88,9 +100,11 @@ eodIn Main m = begun m Normalization
 eodIn Plain m = faulty m EodAfterResponse
 eodIn Checked m = faulty m EodAfterResponse
 
+-- the same, by where the machine stands
 abbrev pub eodOf : Machine → Stepped
 eodOf m = eodIn (m .phase) m
 
+-- an EOD or an end: 16, 17 and 18 are judged in this order, then an EOD goes on and an end closes
 unfoldable pub closeOf : Machine → Bool → Stepped
 closeOf m eod =
     cond (not (eqb (m .partial) 1)) (faulty m SplitByte)
@@ -110,6 +124,7 @@ meaningOf Ifs = Shut false
 meaningOf BreakWidth = Wrong Break
 meaningOf StuckWidth = Wrong Stuck
 
+-- what a meaning does
 abbrev pub stepBy : Machine → Meaning → Stepped
 stepBy m (Bit one) = bitOf m one
 stepBy m (Shut eod) = closeOf m eod

@@ -1,13 +1,13 @@
 // The frame machine. It is told the symbols behind an opening, one after the other, and says of each whether the frame
 // goes on, has one byte more, is closed, or is at fault. It sees no widths and keeps no bytes: whoever drives it does.
+mod shut;
+
 ghost use mathlib.Core.Path.{_≡_};
-ghost use mathlib.Core.Bool.{_&&_, not};
-ghost use Prim.Native.Nat.{_+_, _<_};
-ghost use lib.Dec.{eqb, ltb};
-ghost use Rattle.checkbyte.specs.Register.{residue};
+ghost use Prim.Native.Nat.{_<_};
 ghost use Rattle.framing.specs.Bits.{value};
-ghost use Rattle.machine.specs.Steps.{faulty, closing, begun, pushOf, responseBegun, partOf, sofPhase, bitOf, sofOf, asking, askedOf, eodOf, closeOf, meaningOf, stepOf, fresh};
+ghost use Rattle.machine.specs.Steps.{faulty, begun, pushOf, responseBegun, partOf, sofPhase, bitOf, sofOf, meaningOf, stepOf, fresh};
 use framing::Fault;
+use shut::close_part;
 use symbol::Symbol;
 
 // Where the next interval stands in the frame: at the place of the SOF or of the normalization bit, in the main part, or
@@ -45,12 +45,6 @@ pub struct Stepped {
     pub machine: Machine,
 }
 
-// What is asked of a part at its EOD or end: how many bytes at least, and whether the last of them is a check byte.
-struct Asked {
-    fewest: usize,
-    checked: bool,
-}
-
 // What a symbol means inside a frame: a bit's width, an EOD or an end, the SOF's width, or what stands in no frame.
 enum Meaning {
     Bit(bool),
@@ -61,13 +55,6 @@ enum Meaning {
 
 // All bytes of a frame together are at most so many.
 pub const MOST_BYTES: usize = 12;
-
-// The fewest bytes of each part, its check byte included.
-const FEWEST_MAIN: usize = 2;
-
-const FEWEST_PLAIN: usize = 1;
-
-const FEWEST_CHECKED: usize = 2;
 
 // A partial byte that has no bit yet, and what a whole byte's leading 1 counts.
 const NO_BITS: u8 = 1;
@@ -109,16 +96,6 @@ fn fail(machine: Machine, fault: Fault) -> Stepped
 {
     Stepped {
         event: Event::Faulty(fault),
-        machine,
-    }
-}
-
-// The interval is the end that closes the frame.
-fn close(machine: Machine) -> Stepped
-    ensures { λ r. ⌜ r ≡ closing machine ⌝ }
-{
-    Stepped {
-        event: Event::Closed,
         machine,
     }
 }
@@ -236,82 +213,6 @@ fn sof(machine: Machine) -> Stepped
         return begin(machine, Phase::Main);
     }
     fail(machine, Fault::LateSof)
-}
-
-// What is asked of a part.
-fn ask(fewest: usize, checked: bool) -> Asked
-    ensures { λ r. ⌜ r ≡ asking fewest checked ⌝ }
-{
-    Asked { fewest, checked }
-}
-
-// What is asked of the part that closes. The places of the SOF and of the normalization bit are active, where no EOD or
-// end can stand: nothing is asked there, here and below.
-fn asked_of(phase: Phase) -> Asked
-    ensures { λ r. ⌜ r ≡ askedOf phase ⌝ }
-{
-    match phase {
-        Phase::Sof => ask(0, false),
-        Phase::Normalization => ask(0, false),
-        Phase::Main => ask(FEWEST_MAIN, true),
-        Phase::Plain => ask(FEWEST_PLAIN, false),
-        Phase::Checked => ask(FEWEST_CHECKED, true),
-    }
-}
-
-// Whether the check byte of a part that has one is wrong, by what the register has come to over the part.
-fn wrong_check(checked: bool, register: u8) -> bool
-    ensures { λ r. ⌜ r ≡ (checked && not (eqb register residue)) ⌝ }
-{
-    if checked {
-        return register != checkbyte::RESIDUE;
-    }
-    false
-}
-
-// Whether a part has fewer bytes than are asked of it.
-fn too_few(count: usize, began: usize, fewest: usize) -> bool
-    ensures { λ r. ⌜ r ≡ ltb count (began + fewest) ⌝ }
-{
-    if count < fewest {
-        return true;
-    }
-    count - fewest < began
-}
-
-// What follows an EOD that is not at fault itself: a response behind the main part, and nothing behind a response.
-fn behind_eod(machine: Machine) -> Stepped
-    ensures { λ r. ⌜ r ≡ eodOf machine ⌝ }
-{
-    let phase = machine.phase;
-    match phase {
-        Phase::Sof => begin(machine, Phase::Main),
-        Phase::Normalization => begin(machine, Phase::Checked),
-        Phase::Main => begin(machine, Phase::Normalization),
-        Phase::Plain => fail(machine, Fault::EodAfterResponse),
-        Phase::Checked => fail(machine, Fault::EodAfterResponse),
-    }
-}
-
-// An EOD or an end closes a part: it has no open byte, enough bytes, and the right check byte.
-fn close_part(machine: Machine, eod: bool) -> Stepped
-    ensures { λ r. ⌜ r ≡ closeOf machine eod ⌝ }
-{
-    let phase = machine.phase;
-    let asked = asked_of(phase);
-    if machine.partial != NO_BITS {
-        return fail(machine, Fault::SplitByte);
-    }
-    if too_few(machine.count, machine.began, asked.fewest) {
-        return fail(machine, Fault::FewBytes);
-    }
-    if wrong_check(asked.checked, machine.register) {
-        return fail(machine, Fault::WrongCheck);
-    }
-    if eod {
-        return behind_eod(machine);
-    }
-    close(machine)
 }
 
 // What a symbol means inside a frame.

@@ -3,23 +3,21 @@ use Prim.Native.Nat.{ℕ, _+_, _≤_}
 use mathlib.Core.Path.{_≡_, refl, sym, ap, _∙_}
 use mathlib.Core.List.{List, [], _∷_, _++_, append-assoc}
 use native.Mathlib.Omega.{arith}
-use lib.ListN.{length, take, drop, length-append, length-drop}
+use lib.ListN.{length, take, drop, length-append}
 use lib.Seq.{take-at, drop-at}
 use Rattle.units.specs.declared.Place.{Place}
-use Rattle.framing.specs.declared.Lengths.{Lengths}
 use Rattle.framing.specs.declared.Response.{Response}
 use Rattle.framing.specs.declared.Reading.{Reading}
 use Rattle.framing.specs.declared.Reading.the-variants.{Frame, Quiet, Unfinished, Faulty}
 use Rattle.framing.specs.Faults.{mostBytes}
-use Rattle.framing.specs.Reading.{Outcome, good, quiet, unfinished, faulty, reading}
-use Rattle.framing.specs.Answers.{Told, faultNumber, bare, told, tells, lentAfter, ReadPromise}
+use Rattle.framing.specs.Reading.{Outcome, good, reading}
+use Rattle.framing.specs.Answers.{faultNumber, bare, told, tells, lentAfter, ReadPromise}
 use Rattle.framing.specs.ReadSettled.{told-once}
 use Rattle.text.specs.Grammar.{tab}
 use Rattle.text.specs.Numerals.{decimal, hex}
 use Rattle.text.specs.Report.{w-frame, w-quiet, w-unfinished, w-fault, w-none, lineOf, marked, rowOf}
 use Rattle.text.specs.AnswerLaws.{Answer, isSilence, isOpen, isFrame, isFault, answer-is}
 use Rattle.report.specs.declared.rows.Next.{Next}
-use Rattle.report.specs.declared.rows.Step.{Step}
 use Rattle.report.specs.Laying.{Laid, Room, tabbed, frameEnd, faultEnd, Holds, behindOf, lineIn}
 use Rattle.report.specs.Reporting.{answerAt, onwards, Stepped}
 

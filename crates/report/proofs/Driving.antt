@@ -2,18 +2,16 @@
 use Prim.Native.Nat.{ℕ, _+_, _-_, _≤_, _<_}
 use mathlib.Core.Path.{_≡_, refl, sym, ap, _∙_}
 use mathlib.Core.Bool.{Bool, true, false}
-use mathlib.Core.List.{List, [], _∷_, _++_, append-nil}
+use mathlib.Core.List.{List, _++_, append-nil}
 use native.Mathlib.Omega.{arith}
 use lib.ListN.{length, length-append}
 use lib.Seq.{sets}
 use Rattle.laws.specs.Lent.{sets-then}
-use Rattle.laws.specs.Tests.{never}
 use Rattle.framing.specs.Faults.{mostBytes}
-use Rattle.framing.specs.Reading.{Outcome, good, quiet, unfinished, faulty, refused, reading}
+use Rattle.framing.specs.Reading.{Outcome, good, quiet, unfinished, faulty, refused}
 use Rattle.framing.specs.Outcomes.{goesOn}
 use Rattle.framing.specs.ReadingOn.{nextOf, progress, ReadsOn, last, more, answersIn, reads-on, reads-once}
 use Rattle.text.specs.Report.{rowOf, rowsOf}
-use Rattle.report.specs.declared.rows.Next.{Next}
 use Rattle.report.specs.declared.rows.Next.the-variants.{At, Nowhere}
 use Rattle.report.specs.declared.rows.Step.{Step}
 use Rattle.report.specs.Laying.{Laid, Room}

@@ -1,14 +1,12 @@
 -- Laws of laying text: one text behind another, room for what is left, and how each function's stores lay its text.
 use Prim.Native.Nat.{ℕ, zero, suc, _+_, _-_, _*_, _/_, _%_, _^_, _≤_, _<_}
 use mathlib.Core.Path.{_≡_, refl, sym, ap, _∙_}
-use mathlib.Core.Bool.{Bool, true, false, cond}
 use mathlib.Core.List.{List, [], _∷_, _++_, append-nil, append-assoc}
 use native.Mathlib.Numerals.{add-one}
 use native.Mathlib.Omega.{arith}
 use native.Mathlib.Nat.{pow-suc, pow-le-pow-right, le-trans}
-use lib.Dec.{ltb, leb}
 use lib.ListN.{length, getD, take, drop, set, length-set, length-append, length-drop, drop-of-length-le}
-use lib.Seq.{sets, sets-eq, length-sets, take-length, take-all, drop-drop, drop-cons, length-take-le}
+use lib.Seq.{sets, sets-eq, length-sets, take-length, take-all, drop-drop, drop-cons}
 use mathlib.Core.Logic.{_⊎_, inl, inr}
 use borrow.Author.Tests.{lt-ltb, le-ltb}
 use borrow.Rule.Slice.PartMut.{putMid, postOf}

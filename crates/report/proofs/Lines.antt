@@ -1,6 +1,6 @@
 -- The parts of a line, one behind another: room for each in turn, and what they come to together.
 use Prim.Native.Nat.{ℕ, _+_, _-_, _≤_}
-use mathlib.Core.Path.{_≡_, refl, sym, ap, _∙_}
+use mathlib.Core.Path.{_≡_}
 use mathlib.Core.List.{List, [], _∷_, _++_}
 use native.Mathlib.Omega.{arith}
 use lib.ListN.{length, take, drop}
@@ -14,7 +14,7 @@ use Rattle.framing.specs.Answers.{faultNumber}
 use Rattle.units.specs.declared.Place.{Place}
 use Rattle.text.specs.Grammar.{newline, tab}
 use Rattle.text.specs.Numerals.{decimal, hex}
-use Rattle.text.specs.Report.{w-refused, w-frame, w-fault, w-none, w-plain, w-checked, refusal, marked}
+use Rattle.text.specs.Report.{w-refused, w-frame, w-fault, w-none, w-plain, w-checked, refusal}
 use Rattle.report.specs.Laying.{Laid, Room, tabbed, responseEnd, frameEnd, faultEnd, endOf, Holds, placeOf, lineIn}
 use Rattle.report.proofs.Laying.{then, room-first, room-next}
 

@@ -1,15 +1,15 @@
 -- The whole text: the header and the lines of all answers, or a refusal, as judging has it.
 use Prim.Native.Nat.{ℕ, _+_, _-_, _≤_, _<_}
 use mathlib.Core.Path.{_≡_, refl, sym, ap, _∙_}
-use mathlib.Core.Bool.{Bool, true, false, cond, _||_}
-use mathlib.Core.List.{List, [], _∷_, _++_}
+use mathlib.Core.Bool.{Bool, true, false, cond}
+use mathlib.Core.List.{List, _++_}
 use native.Mathlib.Omega.{arith}
 use lib.Dec.{eqb, ltb}
 use lib.ListN.{length, take, drop, length-append}
-use lib.Seq.{sets, take-at}
+use lib.Seq.{take-at}
 use borrow.Author.Tests.{lt-ltb, le-ltb, eqb-true, eqb-false, ne-eqb}
 use Rattle.laws.specs.Lent.{sets-first}
-use Rattle.laws.specs.Tests.{never, or-right}
+use Rattle.laws.specs.Tests.{or-right}
 use Rattle.framing.specs.Faults.{mostBytes}
 use Rattle.framing.specs.ReadingOn.{answersIn}
 use Rattle.text.specs.declared.Labels.{Labels}
@@ -19,9 +19,9 @@ use Rattle.text.specs.declared.Answered.{Answered}
 use Rattle.text.specs.declared.Answered.the-variants.{Report, Refused, FewLent}
 use Rattle.text.specs.Input.{Line, lines, firstBad, customerOf, vehicleOf, recordingOf, mostWidths}
 use Rattle.text.specs.Report.{header, refusal, rowsOf, report, deskOf}
-use Rattle.text.specs.Calls.{Tale, Verdict, good, bad, verdictBy, judging, judgedTold, verdictTells, laidOn, JudgePromise, mostText, lentShort, Page, reported, turnedDown, pageBy, answering, Told, answeredTold, pageTells, laidWords, laidText, DeskPromise}
-use Rattle.text.specs.LabelPlaces.{customerPlace, Stand, labels-stand}
-use Rattle.text.specs.Whole.{desk-good, desk-bad, desk-size, recording-few}
+use Rattle.text.specs.Calls.{Tale, Verdict, good, bad, verdictBy, judging, judgedTold, verdictTells, laidOn, JudgePromise, mostText, lentShort, pageBy, answering, answeredTold, pageTells, DeskPromise}
+use Rattle.text.specs.LabelPlaces.{Stand, labels-stand}
+use Rattle.text.specs.Whole.{desk-good, desk-bad, desk-size}
 use Rattle.report.specs.Laying.{Laid, Room}
 use Rattle.report.specs.Reporting.{rowsFrom, customerIn, vehicleIn, Within}
 use Rattle.report.proofs.Laying.{then, room-first, room-next}

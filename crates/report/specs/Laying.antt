@@ -33,13 +33,15 @@ tabbed f = f ++ (tab ∷ [])
 abbrev pub responseEnd : Response → List ℕ → List ℕ
 responseEnd kind bs = marked kind bs ++ (newline ∷ [])
 
--- the last three fields of a line: of a frame whose bytes stand first in s, of a fault, and of an answer
+-- the last three fields of a line: of a frame whose bytes stand first in s ..
 unfoldable pub frameEnd : Lengths → Response → List ℕ → List ℕ
 frameEnd n kind s = lineOf (w-frame ∷ hex (take (n .main) s) ∷ marked kind (take (n .response) (drop (n .main) s)) ∷ [])
 
+-- .. of a fault
 unfoldable pub faultEnd : Fault → List ℕ
 faultEnd f = lineOf ((w-fault ++ decimal (faultNumber f)) ∷ w-none ∷ w-none ∷ [])
 
+-- .. and of an answer
 abbrev pub endOf : Reading → List ℕ → List ℕ
 endOf (Frame lengths response opening next) s = frameEnd lengths response s
 endOf (Quiet next) s = lineOf (w-quiet ∷ w-none ∷ w-none ∷ [])
@@ -57,7 +59,7 @@ Holds (Faulty fault next) s = Unit {0}
 Holds PastRecording s = Unit {0}
 Holds FewLentBytes s = Unit {0}
 
--- where an answer stands, and where reading goes on behind it
+-- where an answer stands ..
 abbrev pub placeOf : Reading → ℕ
 placeOf (Frame lengths response opening next) = opening .0
 placeOf (Quiet next) = next .0
@@ -66,6 +68,7 @@ placeOf (Faulty fault next) = next .0
 placeOf PastRecording = 0
 placeOf FewLentBytes = 0
 
+-- .. and where reading goes on behind it
 abbrev pub behindOf : Reading → Next
 behindOf (Frame lengths response opening next) = At (next .0)
 behindOf (Quiet next) = Nowhere

@@ -7,17 +7,18 @@ use Rattle.framing.specs.Faults.{mostBytes}
 use Rattle.framing.specs.Reading.{Outcome, good, quiet, unfinished, faulty, refused, reading}
 use Rattle.framing.specs.ReadingOn.{answersIn}
 use Rattle.text.specs.declared.Labels.{Labels}
-use Rattle.text.specs.Report.{rowOf, rowsOf, report}
+use Rattle.text.specs.Report.{rowOf, rowsOf}
 use Rattle.text.specs.LabelPlaces.{customerPlace}
 use Rattle.report.specs.declared.rows.Next.{Next}
 use Rattle.report.specs.declared.rows.Next.the-variants.{At, Nowhere}
 use Rattle.report.specs.declared.rows.Step.{Step}
 use Rattle.report.specs.Laying.{Laid}
 
--- the answer at a position, and where reading goes on behind it
+-- the answer at a position ..
 abbrev pub answerAt : List ℕ → ℕ → Outcome
 answerAt ws p = reading ws p mostBytes
 
+-- .. and where reading goes on behind it
 abbrev pub onwards : Outcome → Next
 onwards (good main response kind opening next) = At next
 onwards (quiet next) = Nowhere
@@ -34,10 +35,11 @@ pub record Stepped (customer vehicle ws : List ℕ) (p at : ℕ) (entry exit : L
   pub row : Laid at (rowOf customer vehicle (answerAt ws p)) entry exit (r .end)
   pub follows : r .next ≡ onwards (answerAt ws p)
 
--- the labels that stand in an input, by their lengths
+-- the customer's label, by the labels' lengths in an input
 abbrev pub customerIn : List ℕ → Labels → List ℕ
 customerIn s l = take (l .customer) (drop customerPlace s)
 
+-- the vehicle's stands behind the customer's and a tab
 abbrev pub vehicleIn : List ℕ → Labels → List ℕ
 vehicleIn s l = take (l .vehicle) (drop (customerPlace + l .customer + 1) s)
 

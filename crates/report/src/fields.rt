@@ -1,7 +1,6 @@
 // What the fields of a line are printed by. Each function lays its text from a place on and answers the place behind it.
 ghost use mathlib.Core.Path.{_≡_};
-ghost use Prim.Native.Nat.{_+_, _*_, _/_, _%_, _≤_, _<_};
-ghost use mathlib.Core.List.{[], _∷_, _++_};
+ghost use Prim.Native.Nat.{_+_, _/_, _%_, _≤_, _<_};
 ghost use lib.ListN.{length};
 ghost use Rattle.text.specs.Numerals.{decimal, hexDigit, hex};
 ghost use Rattle.framing.specs.Answers.{faultNumber};
@@ -47,6 +46,7 @@ pub(crate) fn put_place(n: usize, lent: &mut [u8], at: usize) -> usize
     put(b"\t", lent, k)
 }
 
+// The digit of a number below 16.
 fn hex_digit(d: u8) -> u8
     requires { ⌜ d < 16 ⌝ }
     ensures { λ r. ⌜ r ≡ hexDigit d ⌝ }
@@ -54,12 +54,14 @@ fn hex_digit(d: u8) -> u8
     if d < 10 { b'0' + d } else { b'A' - 10 + d }
 }
 
+// A byte's first hex digit.
 fn high(b: u8) -> u8
     ensures { λ r. ⌜ r ≡ hexDigit (b / 16) ⌝ }
 {
     hex_digit(b / 16)
 }
 
+// And its second.
 fn low(b: u8) -> u8
     ensures { λ r. ⌜ r ≡ hexDigit (b % 16) ⌝ }
 {

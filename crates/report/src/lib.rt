@@ -3,8 +3,7 @@
 mod fields;
 mod rows;
 
-ghost use mathlib.Core.Path.{_≡_};
-ghost use Prim.Native.Nat.{_+_, _≤_};
+ghost use Prim.Native.Nat.{_+_};
 ghost use lib.ListN.{length};
 ghost use Rattle.text.specs.Report.{refusal};
 ghost use Rattle.text.specs.Report.{report as reportOf};

@@ -1,6 +1,6 @@
 // The line of each answer.
 ghost use mathlib.Core.Path.{_≡_};
-ghost use Prim.Native.Nat.{_+_, _≤_};
+ghost use Prim.Native.Nat.{_≤_};
 ghost use lib.ListN.{length};
 ghost use Rattle.text.specs.Report.{rowOf};
 ghost use Rattle.report.specs.Laying.{Laid, Room, endOf, Holds, placeOf, behindOf, lineIn};

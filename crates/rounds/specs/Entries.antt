@@ -19,9 +19,11 @@ countOf s = cond (empty s) 0 (8 * length (withCheck (stored s)))
 unfoldable pub frameOf : Station → List ℕ
 frameOf s = withCheck (stored s) ++ replicate (mostStored - length (stored s)) 0
 
+-- a station's short bit
 abbrev pub shortOf : Station → ℕ
 shortOf s = s .clock .short .0
 
+-- a station's long bit
 abbrev pub longOf : Station → ℕ
 longOf s = s .clock .long .0
 

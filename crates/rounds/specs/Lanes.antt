@@ -6,7 +6,6 @@ use lib.Dec.{eqb, leb, ltb}
 use lib.ListN.{getD}
 use Rattle.framing.specs.Bits.{odd}
 use Rattle.contest.specs.Stations.{mostStations}
-use Rattle.rounds.specs.declared.lanes.Lane.{Lane}
 use Rattle.rounds.specs.declared.lanes.Ask.{Ask}
 use Rattle.rounds.specs.declared.lanes.Ask.the-variants.{Out, Ended, Bit}
 use Rattle.rounds.specs.declared.lanes.Asked.{Asked}
@@ -23,6 +22,14 @@ abbrev pub lanesOf : List ℕ → List (List ℕ) → List ℕ → List ℕ → 
 lanesOf counts frames shorts longs = record { counts = counts; frames = frames; shorts = shorts; longs = longs }
 
 -- ## One place
+
+-- what there is of one place at one bit: the byte is the one that the bit lies in
+pub record Lane : Type 0 where
+  pub count : ℕ
+  pub byte : ℕ
+  pub short : ℕ
+  pub long : ℕ
+  pub lost : ℕ
 
 -- a place at bit j, from 0 on
 unfoldable pub laneAt : Lanes → List ℕ → ℕ → ℕ → Lane

@@ -9,3 +9,4 @@ pub mod Rounds
 pub mod Starting
 pub mod Playing
 pub mod RoundOutcomes
+pub mod PlayedSettled

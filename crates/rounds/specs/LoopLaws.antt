@@ -1,18 +1,27 @@
 -- The loops over the lanes: what they have come to, and one place more.
 use Prim.Native.Nat.{ℕ, _+_, _-_, _≤_, _<_}
 use mathlib.Core.Path.{_≡_, refl, sym, ap, _∙_}
-use mathlib.Core.Bool.{Bool, false}
+use mathlib.Core.Bool.{Bool, true, false, cond}
 use mathlib.Core.List.{List, _∷_}
 use native.Mathlib.Omega.{arith}
 use native.Mathlib.Nat.{zero-add}
+use lib.Dec.{eqb, ltb}
 use lib.ListN.{length, drop, getD, set}
 use Rattle.contest.specs.Stations.{mostStations}
-use Rattle.rounds.specs.declared.lanes.Lane.{Lane}
 use Rattle.rounds.specs.declared.lanes.Ask.{Ask}
 use Rattle.rounds.specs.declared.lanes.Ask.the-variants.{Out}
 use Rattle.rounds.specs.declared.lanes.Asked.{Asked}
 use Rattle.rows.specs.Scan.{from-length, from-getD, fold-start, fold-more, fold-all, filled, fill-ahead, fill-more, fill-all}
-use Rattle.rounds.specs.Lanes.{Lanes, laneAt, askOf, lostBy, asksAt, takenIn, allAsked, lostAll}
+use Rattle.rounds.specs.Lanes.{Lanes, Lane, laneAt, askOf, lostBy, asksAt, takenIn, allAsked, lostAll}
+
+-- A place that has lost is out, whatever else there is of it.
+pub out-lost : (lane : Lane) (active : Bool) (j : ℕ) → ltb 0 (lane .lost) ≡ true → askOf lane active j ≡ Out
+unfolding askOf
+out-lost lane active j h = rw h (either (eqb (lane .count) 0))
+  where
+    either : (b : Bool) → cond b Out Out ≡ Out
+    either true = refl
+    either false = refl
 
 module _ (l : Lanes) (lost : List ℕ) (active : Bool) (j : ℕ) where
   -- ## What all places ask
@@ -33,12 +42,12 @@ module _ (l : Lanes) (lost : List ℕ) (active : Bool) (j : ℕ) where
   unfolding allAsked
   ask-start = fold-start (allAsked active) (takenIn active) taken-one (asksAt l lost active j) mostStations (omega (arith, asks-length))
 
-  pub ask-more : (i : ℕ) → 0 < i → i ≤ mostStations → (lane : Lane) → lane ≡ laneAt l lost j (i - 1) → (ask : Ask) → ask ≡ askOf lane active j
+  pub ask-more : (i : ℕ) → 0 < i → i ≤ mostStations → (ask : Ask) → ask ≡ askOf (laneAt l lost j (i - 1)) active j
       → (v u : Asked) → v ≡ allAsked active (drop i (asksAt l lost active j)) → u ≡ takenIn active v ask
       → u ≡ allAsked active (drop (i - 1) (asksAt l lost active j))
-  ask-more i lo hi lane d ask e v u f g =
+  ask-more i lo hi ask e v u f g =
       fold-more (allAsked active) (takenIn active) taken-one (asksAt l lost active j) i Out lo (omega (arith, asks-length)) v u f
-      (g ∙ ap (takenIn active v) (e ∙ ap (λ (x : Lane). askOf x active j) d ∙ sym (ask-at (i - 1) (omega arith))))
+      (g ∙ ap (takenIn active v) (e ∙ sym (ask-at (i - 1) (omega arith))))
 
   pub ask-all : (i : ℕ) → i ≤ 0 → (v : Asked) → v ≡ allAsked active (drop i (asksAt l lost active j)) → v ≡ allAsked active (asksAt l lost active j)
   ask-all = fold-all (allAsked active) (takenIn active) taken-one (asksAt l lost active j)
@@ -54,12 +63,13 @@ module _ (l : Lanes) (lost : List ℕ) (active : Bool) (j : ℕ) where
     unfolding laneAt
     lane-ahead i h = rw (fill-ahead heardAt lost i 0 h)
 
-    pub hear-more : (i : ℕ) → i < length lost → (now : List ℕ) → now ≡ filled heardAt lost i → (lane : Lane) → lane ≡ laneAt l now j i
-        → (ask : Ask) → ask ≡ askOf lane active j → (x : ℕ) → x ≡ lostBy (j + 1) one ask (lane .lost) → set now i x ≡ filled heardAt lost (i + 1)
-    unfolding heardAt laneAt
-    hear-more i h now e lane d ask f x g =
-        let same : lane ≡ laneAt l lost j i = d ∙ ap (λ (r : List ℕ). laneAt l r j i) e ∙ lane-ahead i h in
-        rw e (fill-more heardAt lost i 0 x h (g ∙ rw (f, same)))
+    pub hear-more : (i : ℕ) → i < length lost → (now : List ℕ) → now ≡ filled heardAt lost i
+        → (ask : Ask) → ask ≡ askOf (laneAt l now j i) active j → (x : ℕ) → x ≡ lostBy (j + 1) one ask (getD now i 0) → set now i x ≡ filled heardAt lost (i + 1)
+    unfolding heardAt
+    hear-more i h now e ask f x g =
+        let same : laneAt l now j i ≡ laneAt l lost j i = ap (λ (r : List ℕ). laneAt l r j i) e ∙ lane-ahead i h in
+        let ahead : getD now i 0 ≡ getD lost i 0 = ap (λ (r : List ℕ). getD r i 0) e ∙ fill-ahead heardAt lost i 0 h in
+        rw e (fill-more heardAt lost i 0 x h (g ∙ rw (f, same, ahead)))
 
     pub hear-all : (i : ℕ) → length lost ≡ mostStations → mostStations ≤ i → i ≤ mostStations → (now : List ℕ) → now ≡ filled heardAt lost i → now ≡ lostAll l lost active j one
     unfolding heardAt lostAll

@@ -64,14 +64,17 @@ module _ (at : List Station) (n : length at ≡ mostStations) (h : allSound at �
       ∙ sets-first old (front ++ (300 ∷ [])) (omega (arith, whole, sent .few))
       ∙ ap (λ (k : ℕ). (front ++ (300 ∷ [])) ++ drop k old) whole
 
+  -- No word is added or lost.
   pub mid-length : length mid ≡ length old
   mid-length =
       ap length (sent .writes-them) ∙ length-sets (set (set old 0 300) 1 sof) 2 (courseOf (lanesIn at) (replicate mostStations 0) .widths)
       ∙ length-set (set old 0 300) 1 sof ∙ length-set old 0 300
 
+  -- With the closing end behind them they are the round's words ..
   pub words-are : set mid (2 + bits) 300 ≡ written (roundOf at .words) old
   words-are = closed ∙ ap (λ (k : ℕ). (front ++ (300 ∷ [])) ++ drop k old) (sym whole) ∙ ap (λ (ws : List ℕ). ws ++ drop (length ws) old) (sym all-words)
 
+  -- .. and the sum of all but that end is its line time ..
   pub time-is : sumOf (take (2 + bits) (set mid (2 + bits) 300)) ≡ roundOf at .lineTime
   unfolding roundOf contestOf front course
   time-is =
@@ -79,6 +82,7 @@ module _ (at : List Station) (n : length at ≡ mostStations) (h : allSound at �
       ∙ ap sumOf (take-at front (300 ∷ drop (3 + bits) old) (2 + bits) front-length)
       ∙ ap (λ (s : ℕ). sumOf (300 ∷ s ∷ course .widths)) q
 
+  -- .. which a u32 holds.
   pub time-bound : sumOf (take (2 + bits) (set mid (2 + bits) 300)) ≤ 14438
   time-bound = omega (arith, time-is, row-comes at h .bound)
 
@@ -86,6 +90,7 @@ module _ (at : List Station) (n : length at ≡ mostStations) (h : allSound at �
   unfolding roundOf contestOf course
   fares-are = sent .fares-so ∙ ap (λ (c : Course). map faredAt (c .seats)) same
 
+  -- Each of the 32 places fares somehow.
   pub fares-length : length (roundOf at .fares) ≡ mostStations
   unfolding faresAt
   fares-length = ap length (sym fares-are) ∙ from-length _ 0 mostStations
@@ -110,9 +115,11 @@ module _ (at : List Station) (counts : List ℕ) (frames : List (List ℕ)) (sho
   arrays : lanesOf counts frames shorts longs ≡ lanesIn at
   arrays = cc
 
+  -- They are the lanes of sound stations ..
   pub ready : length at ≡ mostStations → allSound at ≡ true → LanesOk (lanesOf counts frames shorts longs)
   ready n h = subst LanesOk (sym arrays) (start-ok at n h)
 
+  -- .. and what is sent over the arrays is sent over those lanes.
   pub readied : (z lost old mid : List ℕ) (bits : ℕ) → Sent (lanesOf counts frames shorts longs) z lost old mid bits → Sent (lanesIn at) z lost old mid bits
   readied z lost old mid bits s = subst (λ (l : Lanes). Sent l z lost old mid bits) arrays s
 
@@ -131,6 +138,7 @@ sum-part (w ∷ ws) (suc i) = omega (arith, sum-part ws i)
 
 -- The first n words, summed from the last of them on.
 module _ (ws : List ℕ) (n : ℕ) (h : n ≤ length ws) where
+  -- nothing is summed yet
   pub sum-start : 0 ≡ sumOf (drop n (take n ws))
   unfolding sumOf
   sum-start = fold-start sumOf (λ (x y : ℕ). x + y) sum-one (take n ws) n (omega (arith, length-take-le n ws h))
@@ -164,6 +172,7 @@ after-all (f ∷ fares) (s ∷ row) e =
     ap (λ (r : List Station). afterFare f s ∷ r)
     (shift (λ (p : ℕ). afterFare (getD (f ∷ fares) p Idle) (getD (s ∷ row) p blank)) 0 (length row) ∙ after-all fares row (omega arith))
 
+-- The stations by their verdicts are the stations by how they fared.
 pub after-is : (at : List Station) (fares : List Fared) → length at ≡ mostStations → length fares ≡ mostStations → afterVerdicts at (verdictsOf fares) ≡ afterFares fares at
 unfolding afterVerdicts
 after-is at fares n m =
@@ -184,6 +193,7 @@ pub record Settling (at : List Station) (verdicts : List Verdict) (first now : L
   pub so-far : now ≡ filled (afterVerdict at verdicts) first i
 
 module _ {at : List Station} {verdicts : List Verdict} {first now : List Station} {i : ℕ} (so : Settling at verdicts first now i) where
+  -- one station more
   pub settle-more : i < mostStations → (d : Station) (e : Verdict) (x : Station) → x ≡ afterFare (getD verdicts i e .fared) (getD at i d) → Settling at verdicts first (set now i x) (i + 1)
   settle-more h d e x p =
       record {
@@ -197,6 +207,7 @@ module _ {at : List Station} {verdicts : List Verdict} {first now : List Station
             (p ∙ ap₂ (λ (v : Verdict) (s : Station). afterFare (v .fared) s) (getD-any verdicts i e (verdictOf Idle) (omega (arith, so .answers))) (getD-any at i d blank (omega (arith, so .places))));
       }
 
+  -- all of them
   pub settle-all : mostStations ≤ i → now ≡ afterVerdicts at verdicts
   unfolding afterVerdicts
   settle-all h = so .so-far ∙ fill-all (afterVerdict at verdicts) first i mostStations (so .room) h (so .inside)

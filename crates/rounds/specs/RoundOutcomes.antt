@@ -48,9 +48,11 @@ module _ (b : Bench) (lent : List ℕ) (v : Survey) (e : v ≡ surveyOf (b .at))
       let f = four (eqb (b .count) 0 || ltb mostStations (b .count)) (not (surveyOf (b .at) .sound)) (ltb (length lent) mostWords) (surveyOf (b .at) .empty) (eqb-true (numberOn b lent) 0 (first ∙ t)) in
       (not-false (allSound (b .at)) (f .0), ltb-false (length lent) mostWords (f .1))
 
+  -- A round that no rule turns away has sound stations, the longest SOF and words enough.
   pub may-play : yes ≡ true → (allSound (b .at) ≡ true) × (v .sof ≡ longest (sofsAsked (map entryOf (b .at)))) × (mostWords ≤ length lent)
   may-play t = (passed t .0, ap (λ (x : Survey). x .sof) e, passed t .1)
 
+  -- It is played ..
   pub plays : yes ≡ true → length (b .at) ≡ mostStations → (answer : RoundAnswer) → said answer ≡ played (roundOf (b .at))
       → (after : List Station) → after ≡ afterVerdicts (b .at) (answer .verdicts) → (lent′ : List ℕ) → lent′ ≡ written (roundOf (b .at) .words) lent
       → PlayedBy b lent lent′ (record { bench = record { at = after; count = b .count }; answer = answer })
@@ -63,6 +65,7 @@ module _ (b : Bench) (lent : List ℕ) (v : Survey) (e : v ≡ surveyOf (b .at))
         lends = rw (first ∙ t) g;
       }
 
+  -- .. and any other is turned away.
   pub turns-away : yes ≡ false → (answer : RoundAnswer) → answer ≡ idleAll told → PlayedBy b lent lent (record { bench = b; answer = answer })
   unfolding idleAll
   turns-away t answer f =

@@ -29,9 +29,11 @@ roundNumber n v lent =
     (refuse 32 (ltb lent mostWords)
     (refuse 42 (v .empty) 0)))
 
+-- the same for a bench and lent words
 abbrev pub numberOn : Bench → List ℕ → ℕ
 numberOn b lent = roundNumber (b .count) (surveyOf (b .at)) (length lent)
 
+-- an answer that is turned away: all places idle, no words, no time
 unfoldable pub idleAll : RoundTold → RoundAnswer
 idleAll told = record { told = told; verdicts = replicate mostStations (verdictOf Idle); words = 0; «line_time» = record { 0 = 0 } }
 
@@ -39,6 +41,7 @@ idleAll told = record { told = told; verdicts = replicate mostStations (verdictO
 abbrev pub afterVerdict : List Station → List Verdict → ℕ → Station
 afterVerdict at verdicts i = afterFare (getD verdicts i (verdictOf Idle) .fared) (getD at i blank)
 
+-- all stations after a round
 unfoldable pub afterVerdicts : List Station → List Verdict → List Station
 afterVerdicts at verdicts = from (afterVerdict at verdicts) 0 mostStations
 

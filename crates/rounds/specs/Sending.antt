@@ -43,6 +43,7 @@ pub record Sending (l : Lanes) (lost₀ old lost : List ℕ) (active : Bool) (j 
   pub written : new ≡ sets old 2 (take j (courseOf l lost₀ .widths))
   pub to-come : leftOf l lost active j ≡ record { widths = drop j (courseOf l lost₀ .widths); seats = courseOf l lost₀ .seats }
 
+-- Before the first bit nothing is sent.
 pub sending-start : (l : Lanes) (lost old : List ℕ) → length lost ≡ mostStations → mostWords ≤ length old → Sending l lost old lost false 0 old
 sending-start l lost old n h = record { inside = omega arith; reached = omega arith; whole = n; room = h; long = refl; written = refl; to-come = refl }
 
@@ -89,6 +90,7 @@ module _ (l : Lanes) (ok : LanesOk l) (lost₀ old lost : List ℕ) (active : Bo
         fares-so = sym (fares-are l lost active j) ∙ ap (λ (c : Course). map faredAt (c .seats)) (sym e ∙ s .to-come);
       }
 
+  -- After 96 bits all is sent.
   pub sending-last : mostBits ≤ j → Sent l lost₀ lost old new j
   sending-last h =
       let z : mostBits - j ≡ 0 = omega arith in

@@ -79,6 +79,7 @@ module _ (row : List Station) (n : length row ≡ mostStations) (h : allSound ro
   short : (i : ℕ) → i < mostStations → getD row i blank .len ≤ mostStored
   short i k = sound-at row i blank h (omega arith)
 
+  -- The lanes of sound stations are as the loop asks them to be.
   pub start-ok : LanesOk (lanesIn row)
   start-ok i k =
       record {

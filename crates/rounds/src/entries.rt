@@ -41,7 +41,7 @@ fn frame_of(station: Station) -> [u8; 12]
 }
 
 // How many bits each station has to send.
-pub fn counts(row: [Station; 32]) -> [usize; 32]
+pub(crate) fn counts(row: [Station; 32]) -> [usize; 32]
     requires { ⌜ allSound row ≡ true ⌝ }
     ensures { λ r. ⌜ r ≡ map countOf row ⌝ }
 {
@@ -56,7 +56,7 @@ pub fn counts(row: [Station; 32]) -> [usize; 32]
 }
 
 // The bytes that each station sends.
-pub fn frames(row: [Station; 32]) -> [[u8; 12]; 32]
+pub(crate) fn frames(row: [Station; 32]) -> [[u8; 12]; 32]
     requires { ⌜ allSound row ≡ true ⌝ }
     ensures { λ r. ⌜ r ≡ map frameOf row ⌝ }
 {
@@ -73,7 +73,7 @@ pub fn frames(row: [Station; 32]) -> [[u8; 12]; 32]
 }
 
 // The short bit of each station's clock.
-pub fn shorts(row: [Station; 32]) -> [u32; 32]
+pub(crate) fn shorts(row: [Station; 32]) -> [u32; 32]
     ensures { λ r. ⌜ r ≡ map shortOf row ⌝ }
 {
     let mut all: [u32; 32] = [0; 32];
@@ -88,7 +88,7 @@ pub fn shorts(row: [Station; 32]) -> [u32; 32]
 }
 
 // The long bit of each station's clock.
-pub fn longs(row: [Station; 32]) -> [u32; 32]
+pub(crate) fn longs(row: [Station; 32]) -> [u32; 32]
     ensures { λ r. ⌜ r ≡ map longOf row ⌝ }
 {
     let mut all: [u32; 32] = [0; 32];
@@ -120,7 +120,7 @@ fn fared(count: usize, lost: usize) -> Verdict
 }
 
 // The verdicts of a round that is over.
-pub fn verdicts(counts: &[usize; 32], lost: &[usize; 32]) -> [Verdict; 32]
+pub(crate) fn verdicts(counts: &[usize; 32], lost: &[usize; 32]) -> [Verdict; 32]
     ensures { λ r. ⌜ r ≡ verdictsAt (now (counts .entry)) (now (lost .entry)) ⌝ }
 {
     let idle = Verdict { fared: Fared::Idle };

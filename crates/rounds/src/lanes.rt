@@ -20,15 +20,6 @@ const MOST_STATIONS: usize = 32;
 
 const BITS_OF_BYTE: usize = 8;
 
-// One place at one bit: the byte is the one that the bit lies in.
-struct Lane {
-    count: usize,
-    byte: u8,
-    short: u32,
-    long: u32,
-    lost: usize,
-}
-
 // What a place asks of the line at a bit: nothing, because it is out of the round or was never in it; nothing, because
 // it has sent its check byte; or a bit, a 1 or not, of a width.
 enum Ask {
@@ -57,46 +48,34 @@ fn width_for(short: u32, long: u32, active: bool, one: bool) -> u32
     if active == one { short } else { long }
 }
 
-// What a place asks of the line at bit j, from 0 on.
-fn asks(lane: Lane, active: bool, j: usize) -> Ask
-    ensures { λ r. ⌜ r ≡ askOf lane active j ⌝ }
-{
-    let count = lane.count;
-    let lost = lane.lost;
-    let gone = 0 < lost;
-    if count == 0 {
-        return Ask::Out;
-    }
-    if gone {
-        return Ask::Out;
-    }
-    if count <= j {
-        return Ask::Ended;
-    }
-    let one = bit_of(lane.byte, j);
-    Ask::Bit(one, width_for(lane.short, lane.long, active, one))
-}
-
-// One place of the arrays, at bit j.
-fn lane_at(
+// What place i asks of the line at bit j, both from 0 on. Most places are out of most rounds soon, so that is looked at first.
+fn asks(
     counts: &[usize; 32],
     frames: &[[u8; 12]; 32],
     shorts: &[u32; 32],
     longs: &[u32; 32],
     lost: &[usize; 32],
+    active: bool,
     i: usize,
     j: usize,
-) -> Lane
+) -> Ask
     requires { ⌜ (i < 32) × (j < 96) ⌝ }
-    ensures { λ r. ⌜ r ≡ laneAt (lanesOf (now (counts .entry)) (now (frames .entry)) (now (shorts .entry)) (now (longs .entry))) (now (lost .entry)) j i ⌝ }
+    ensures { λ r. ⌜ r ≡ askOf (laneAt (lanesOf (now (counts .entry)) (now (frames .entry)) (now (shorts .entry)) (now (longs .entry))) (now (lost .entry)) j i) active j ⌝ }
 {
-    Lane {
-        count: counts[i],
-        byte: frames[i][j / BITS_OF_BYTE],
-        short: shorts[i],
-        long: longs[i],
-        lost: lost[i],
+    let lost_at = lost[i];
+    let gone = 0 < lost_at;
+    if gone {
+        return Ask::Out;
     }
+    let count = counts[i];
+    if count == 0 {
+        return Ask::Out;
+    }
+    if count <= j {
+        return Ask::Ended;
+    }
+    let one = bit_of(frames[i][j / BITS_OF_BYTE], j);
+    Ask::Bit(one, width_for(shorts[i], longs[i], active, one))
 }
 
 // What one place asks, taken in with what the places behind it ask: of two passive bits the shorter, of two active ones
@@ -134,7 +113,7 @@ fn lesser(a: u32, b: u32) -> u32
 }
 
 // What all places ask of the line at bit j.
-pub fn all_ask(
+pub(crate) fn all_ask(
     counts: &[usize; 32],
     frames: &[[u8; 12]; 32],
     shorts: &[u32; 32],
@@ -153,8 +132,7 @@ pub fn all_ask(
     let mut i = MOST_STATIONS;
     while 0 < i {
         i -= 1;
-        let lane = lane_at(counts, frames, shorts, longs, lost, i, j);
-        let ask = asks(lane, active, j);
+        let ask = asks(counts, frames, shorts, longs, lost, active, i, j);
         all = taken_in(all, ask, active);
     }
     all
@@ -173,7 +151,7 @@ fn lost_by(ask: Ask, lost: usize, k: usize, one: bool) -> usize
 }
 
 // Every place hears bit j.
-pub fn hear(
+pub(crate) fn hear(
     counts: &[usize; 32],
     frames: &[[u8; 12]; 32],
     shorts: &[u32; 32],
@@ -188,15 +166,14 @@ pub fn hear(
 {
     let mut i = 0;
     while i < MOST_STATIONS {
-        let lane = lane_at(counts, frames, shorts, longs, lost, i, j);
-        let ask = asks(lane, active, j);
-        lost[i] = lost_by(ask, lane.lost, j + 1, one);
+        let ask = asks(counts, frames, shorts, longs, lost, active, i, j);
+        lost[i] = lost_by(ask, lost[i], j + 1, one);
         i += 1;
     }
 }
 
 // The bit on the line: the one that the table of symbols gives to its width, at its level.
-pub fn on_line(active: bool, width: u32) -> bool
+pub(crate) fn on_line(active: bool, width: u32) -> bool
     ensures { λ r. ⌜ r ≡ onLine active width ⌝ }
 {
     let symbol = symbol::class(active, Micros(width));

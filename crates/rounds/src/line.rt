@@ -21,7 +21,7 @@ pub const BEFORE_BITS: usize = 2;
 
 // The stations of a row contend: their bits are sent. Answers how many there were; each place's loss stands in `lost`,
 // which comes in as all zeros.
-pub fn contend(at: [Station; 32], lost: &mut [usize; 32], words: &mut [u32]) -> usize
+pub(crate) fn contend(at: [Station; 32], lost: &mut [usize; 32], words: &mut [u32]) -> usize
     requires { ⌜ (allSound at ≡ true) × (length (now lost) ≡ 32) × (mostWords ≤ length (now words)) ⌝ }
     ensures { λ r. ⌜ Sent (lanesIn at) (now (lost .entry)) (now (lost .exit)) (now (words .entry)) (now (words .exit)) r ⌝ }
 {

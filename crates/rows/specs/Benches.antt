@@ -6,6 +6,7 @@ use Rattle.contest.specs.declared.Station.{Station}
 use Rattle.contest.specs.Stations.{mostStations, blank}
 use Rattle.rows.specs.declared.Bench.{Bench}
 
+-- the bench with a station at a place; a place past the 32nd is not kept
 unfoldable pub withOf : Bench → ℕ → Station → Bench
 withOf b i s = record { at = set (b .at) i s; count = b .count }
 

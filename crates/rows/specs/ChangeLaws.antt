@@ -48,15 +48,18 @@ module _ (b : Bench) (i : ℕ) (called : Called) (p : calledNumber called ≡ ro
   pub goes-on : done ≡ true → (later : ℕ) (next : Bench) (r : Changed) → ChangedBy b later next r → ChangedBy b (andThen (rowNumber b i) later) next r
   goes-on e later next r c = rw (first ∙ e) c
 
+  -- .. or the first ones did.
   pub stops : done ≡ false → (later : ℕ) (next : Bench) → ChangedBy b (andThen (rowNumber b i) later) next (record { bench = b; called = called })
   stops e later next = record { says = rw (first ∙ e) p; leaves = rw (first ∙ e, first ∙ e) }
 
 -- ## The rules of each call, at a place that there is
 
+-- 37
 pub load-bad : (b : Bench) (i : ℕ) (m : List ℕ) → badMessage m ≡ true → ChangedBy b (loadRules b i m) (loadedBench b i m) (record { bench = b; called = BadMessage })
 unfolding loadRules
 load-bad b i m e = rw e (record { says = refl; leaves = refl })
 
+-- 36
 pub clock-bad : (b : Bench) (i : ℕ) (c : Clock) → goodOf c ≡ false → ChangedBy b (clockRules c) (clockedBench b i c) (record { bench = b; called = BadClock })
 unfolding clockRules
 clock-bad b i c e = rw e (record { says = refl; leaves = refl })
@@ -75,14 +78,17 @@ module _ (b : Bench) (i : ℕ) (d : Station) (h : i < length (b .at)) where
     unfolding loadRules
     load-done k s p r q = rw (e, ← there, eq-eqb (getD (b .at) i d .len) 0 (omega arith), q, p) (record { says = refl; leaves = refl })
 
+  -- 42
   pub withdraw-nothing : getD (b .at) i d .len ≡ 0 → ChangedBy b (withdrawRules b i) (withdrawnBench b i) (record { bench = b; called = NothingWaiting })
   unfolding withdrawRules
   withdraw-nothing k = rw (← there, eq-eqb (getD (b .at) i d .len) 0 k) (record { says = refl; leaves = refl })
 
+  -- withdrawn
   pub withdraw-done : (getD (b .at) i d .len ≡ 0 → ⊥) → (s : Station) → s ≡ emptied (getD (b .at) i d) → (r : Changed) → r ≡ doneWith b i s → ChangedBy b (withdrawRules b i) (withdrawnBench b i) r
   unfolding withdrawRules
   withdraw-done k s p r q = rw (← there, ne-eqb (getD (b .at) i d .len) 0 k, q, p) (record { says = refl; leaves = refl })
 
+  -- the clock is set
   pub clock-done : (c : Clock) → goodOf c ≡ true → (s : Station) → s ≡ clocked c (getD (b .at) i d) → (r : Changed) → r ≡ doneWith b i s → ChangedBy b (clockRules c) (clockedBench b i c) r
   unfolding clockRules
   clock-done c e s p r q = rw (e, ← there, q, p) (record { says = refl; leaves = refl })

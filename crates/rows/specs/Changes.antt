@@ -42,33 +42,42 @@ andThen first later = cond (eqb first 0) later first
 
 -- ## Loading
 
+-- 37 and 41, at a place that there is
 unfoldable pub loadRules : Bench → ℕ → List ℕ → ℕ
 loadRules b i m = refuse 37 (badMessage m) (refuse 41 (not (empty (stationOf b i))) 0)
 
+-- all rules of loading
 abbrev pub loadNumber : Bench → ℕ → List ℕ → ℕ
 loadNumber b i m = andThen (rowNumber b i) (loadRules b i m)
 
+-- the bench with the message loaded
 abbrev pub loadedBench : Bench → ℕ → List ℕ → Bench
 loadedBench b i m = withOf b i (loaded m (stationOf b i))
 
 -- ## Withdrawing
 
+-- 42, at a place that there is
 unfoldable pub withdrawRules : Bench → ℕ → ℕ
 withdrawRules b i = refuse 42 (empty (stationOf b i)) 0
 
+-- all rules of withdrawing
 abbrev pub withdrawNumber : Bench → ℕ → ℕ
 withdrawNumber b i = andThen (rowNumber b i) (withdrawRules b i)
 
+-- the bench with the message withdrawn
 abbrev pub withdrawnBench : Bench → ℕ → Bench
 withdrawnBench b i = withOf b i (emptied (stationOf b i))
 
 -- ## Setting a clock
 
+-- 36
 unfoldable pub clockRules : Clock → ℕ
 clockRules c = refuse 36 (badClock c) 0
 
+-- all rules of setting a clock
 abbrev pub clockNumber : Bench → ℕ → Clock → ℕ
 clockNumber b i c = andThen (rowNumber b i) (clockRules c)
 
+-- the bench with the clock set
 abbrev pub clockedBench : Bench → ℕ → Clock → Bench
 clockedBench b i c = withOf b i (clocked c (stationOf b i))

@@ -4,3 +4,4 @@ pub mod SurveyLaws
 pub mod Benches
 pub mod Changes
 pub mod ChangeLaws
+pub mod ChangeSettled

@@ -13,6 +13,7 @@ unfoldable pub from : {A : Type 0} → (ℕ → A) → ℕ → ℕ → List A
 from g i zero = []
 from g i (suc n) = g i ∷ from g (suc i) n
 
+-- There are n of them.
 pub from-length : {A : Type 0} (g : ℕ → A) (i n : ℕ) → length (from g i n) ≡ n
 unfolding from
 from-length g i zero = refl
@@ -25,12 +26,14 @@ from-same g h i zero e = refl
 from-same {A} g h i (suc n) e =
     ap₂ (λ (x : A) (xs : List A). x ∷ xs) (e i (omega arith) (omega arith)) (from-same g h (suc i) n (λ p lo hi. e p (omega arith) (omega arith)))
 
+-- The one at place p is that of i + p.
 pub from-getD : {A : Type 0} (g : ℕ → A) (i n p : ℕ) (d : A) → p < n → getD (from g i n) p d ≡ g (i + p)
 unfolding from
 from-getD g i zero p d h = absurd (omega arith)
 from-getD g i (suc n) zero d h = let e : i + 0 ≡ i = omega arith in rw e
 from-getD g i (suc n) (suc p) d h = let e : i + suc p ≡ suc i + p = omega arith in rw e (from-getD g (suc i) n p d (omega arith))
 
+-- A change made to each of them.
 pub map-from : {A B : Type 0} (f : A → B) (g : ℕ → A) (i n : ℕ) → map f (from g i n) ≡ from (λ (p : ℕ). f (g p)) i n
 unfolding from
 map-from f g i zero = refl
@@ -62,6 +65,7 @@ getD-any (x ∷ l) (suc i) d e h = getD-any l i d e (omega arith)
 
 -- f of a list, made from its end by g
 module _ {A B : Type 0} (f : List A → B) (g : B → A → B) (one : (x : A) (xs : List A) → g (f xs) x ≡ f (x ∷ xs)) (l : List A) where
+  -- behind the last nothing is left
   pub fold-start : (n : ℕ) → length l ≤ n → f [] ≡ f (drop n l)
   fold-start n h = ap f (sym (drop-of-length-le l h))
 
@@ -72,6 +76,7 @@ module _ {A B : Type 0} (f : List A → B) (g : B → A → B) (one : (x : A) (x
       let c : drop (i - 1) l ≡ getD l (i - 1) d ∷ drop (suc (i - 1)) l = drop-cons l (i - 1) d (omega arith) in
       q ∙ ap (λ (x : B). g x (getD l (i - 1) d)) (e ∙ ap (λ n. f (drop n l)) p) ∙ one (getD l (i - 1) d) (drop (suc (i - 1)) l) ∙ ap f (sym c)
 
+  -- all of them
   pub fold-all : (i : ℕ) → i ≤ 0 → (v : B) → v ≡ f (drop i l) → v ≡ f l
   fold-all i h v e = let p : i ≡ 0 = omega arith in e ∙ ap (λ n. f (drop n l)) p
 
@@ -82,6 +87,7 @@ unfoldable pub filled : {A : Type 0} → (ℕ → A) → List A → ℕ → List
 filled g l i = from g 0 i ++ drop i l
 
 module _ {A : Type 0} (g : ℕ → A) (l : List A) where
+  -- none yet
   pub fill-start : l ≡ filled g l 0
   unfolding filled from
   fill-start = refl
@@ -108,6 +114,7 @@ module _ {A : Type 0} (g : ℕ → A) (l : List A) where
       snoc [] = refl
       snoc (y ∷ a) = ap (λ (r : List A). y ∷ r) (snoc a)
 
+  -- As many elements as there were.
   pub fill-length : (i : ℕ) → i ≤ length l → length (filled g l i) ≡ length l
   unfolding filled
   fill-length i h = omega (arith, length-append (from g 0 i) (drop i l), from-length g 0 i, length-dropped)
@@ -115,6 +122,7 @@ module _ {A : Type 0} (g : ℕ → A) (l : List A) where
       length-dropped : length (drop i l) ≡ length l - i
       length-dropped = length-drop i l
 
+  -- all of them
   pub fill-all : (i n : ℕ) → length l ≡ n → n ≤ i → i ≤ n → filled g l i ≡ from g 0 n
   unfolding filled
   fill-all i n e lo hi =

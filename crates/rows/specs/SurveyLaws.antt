@@ -14,6 +14,7 @@ use Rattle.rows.specs.declared.survey.Survey.{Survey}
 use Rattle.rows.specs.Scan.{fold-start, fold-more, fold-all}
 use Rattle.rows.specs.Surveys.{surveyBy, surveyOf}
 
+-- One station more.
 pub survey-one : (s : Station) (row : List Station) → surveyBy (surveyOf row) s ≡ surveyOf (s ∷ row)
 unfolding allSound allEmpty sofsAsked longest
 survey-one s row = go (empty s)
@@ -24,12 +25,15 @@ survey-one s row = go (empty s)
     go false = refl
 
 module _ (row : List Station) where
+  -- behind the last
   pub survey-start : length row ≡ mostStations → record { sound = true; empty = true; sof = 0 } ≡ surveyOf (drop mostStations row)
   unfolding allSound allEmpty sofsAsked longest
   survey-start n = fold-start surveyOf surveyBy survey-one row mostStations (omega arith)
 
+  -- one station more
   pub survey-more : (i : ℕ) (d : Station) → 0 < i → i ≤ length row → (v u : Survey) → v ≡ surveyOf (drop i row) → u ≡ surveyBy v (getD row (i - 1) d) → u ≡ surveyOf (drop (i - 1) row)
   survey-more = fold-more surveyOf surveyBy survey-one row
 
+  -- all of them
   pub survey-end : (i : ℕ) → i ≤ 0 → (v : Survey) → v ≡ surveyOf (drop i row) → v ≡ surveyOf row
   survey-end = fold-all surveyOf surveyBy survey-one row

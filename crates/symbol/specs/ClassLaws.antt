@@ -1,11 +1,10 @@
 -- What the table of widths gives to the rooms above: one symbol for each width at each level, and where the edges stand.
-use Prim.Native.Nat.{ℕ, _≤_, _<_}
+use Prim.Native.Nat.{ℕ}
 use mathlib.Core.Path.{_≡_, refl, sym, _∙_}
-use mathlib.Core.Bool.{Bool, true, false, cond, not, _&&_}
-use mathlib.Core.List.{List, [], _∷_, map}
+use mathlib.Core.Bool.{Bool, true, false}
+use mathlib.Core.List.{[], _∷_, map}
 use mathlib.Core.Logic.{⊎-elim}
 use native.Mathlib.Omega.{arith}
-use lib.Dec.{leb, ltb}
 use borrow.Author.Tests.{le-leb, lt-leb, lt-ltb, le-ltb}
 use Rattle.laws.specs.Tests.{upTo}
 use Rattle.symbol.specs.declared.Symbol.{Symbol}
@@ -74,6 +73,7 @@ pub passive-edges : map (classOf false) (0 ∷ 34 ∷ 35 ∷ 96 ∷ 97 ∷ 163 �
 unfolding classOf
 passive-edges = refl
 
+-- the same where the line is active
 pub active-edges : map (classOf true) (0 ∷ 34 ∷ 35 ∷ 96 ∷ 97 ∷ 163 ∷ 164 ∷ 239 ∷ 240 ∷ 999999 ∷ 1000000 ∷ 4294967295 ∷ []) ≡
     (Noise ∷ Noise ∷ Bit1 ∷ Bit1 ∷ Bit0 ∷ Bit0 ∷ Sof ∷ Sof ∷ Break ∷ Break ∷ Stuck ∷ Stuck ∷ [])
 unfolding classOf

@@ -4,13 +4,15 @@ use mathlib.Core.Bool.{Bool, _&&_}
 use lib.Dec.{leb}
 use Rattle.symbol.specs.declared.Clock.{Clock}
 
--- the sending windows, their edges included
+-- the sending window of a short bit, its edges included
 abbrev pub Short : ℕ → Type 0
 Short w = (49 ≤ w) × (w ≤ 79)
 
+-- that of a long bit
 abbrev pub Long : ℕ → Type 0
 Long w = (112 ≤ w) × (w ≤ 145)
 
+-- that of the SOF
 abbrev pub Start : ℕ → Type 0
 Start w = (182 ≤ w) × (w ≤ 218)
 

@@ -1,7 +1,7 @@
 -- What a good clock sends is read as it was meant.
 use Prim.Native.Nat.{ℕ, _≤_}
-use mathlib.Core.Path.{_≡_, refl, sym, _∙_}
-use mathlib.Core.Bool.{Bool, true, false, cond, _&&_}
+use mathlib.Core.Path.{_≡_, refl}
+use mathlib.Core.Bool.{Bool, true, false, _&&_}
 use native.Mathlib.Omega.{arith}
 use lib.Dec.{leb}
 use borrow.Author.Tests.{leb-true, le-leb}
@@ -10,7 +10,6 @@ use Rattle.units.specs.declared.Micros.{Micros}
 use Rattle.symbol.specs.declared.Symbol.{Symbol}
 use Rattle.symbol.specs.declared.Symbol.the-variants.{Noise, Bit0, Bit1, Eod, Sof, Eof, Ifs, Break, Stuck}
 use Rattle.symbol.specs.declared.Clock.{Clock}
-use Rattle.symbol.specs.declared.Sent.{Sent}
 use Rattle.symbol.specs.declared.Sent.the-variants.{For, Never}
 use Rattle.symbol.specs.Classes.{Window, classOf}
 use Rattle.symbol.specs.ClassLaws.{class-only}
@@ -40,6 +39,7 @@ good c e =
       sof = inside 182 218 (c .sof .0) (k .1);
     }
 
+-- The other way round: it says true for all of them.
 pub good-test : (c : Clock) → Good c → goodOf c ≡ true
 unfolding goodOf
 good-test c g =
@@ -52,6 +52,7 @@ good-test c g =
       le-leb (c .sof .0) 218 (g .sof .1),
     )
 
+-- The nominal clock is one of them.
 pub nominal-good : goodOf nominalClock ≡ true
 unfolding goodOf
 nominal-good = refl

@@ -20,7 +20,9 @@ pub enum Symbol {
     Stuck,
 }
 
-// The widths that a controller sends with: its short bit, its long bit, and its SOF, which is its EOD too.
+// The widths that a controller sends with: its short bit, its long bit, and its SOF, which is its EOD too. Laid out
+// as C has it, since other languages hand it over.
+#[repr(C)]
 pub struct Clock {
     pub short: Micros,
     pub long: Micros,

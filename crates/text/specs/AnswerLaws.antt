@@ -1,10 +1,10 @@
 -- What the answers of a recording can be: reading from within it, with twelve bytes lent, is never turned away.
-use Prim.Native.Nat.{ℕ, _+_, _-_, _*_, _%_, _≤_, _<_}
-use mathlib.Core.Path.{_≡_, refl, sym, _∙_}
-use mathlib.Core.Bool.{Bool, true, false, not, _&&_}
-use mathlib.Core.List.{List, []}
+use Prim.Native.Nat.{ℕ, _+_, _-_, _%_, _≤_, _<_}
+use mathlib.Core.Path.{_≡_, refl}
+use mathlib.Core.Bool.{true, not}
+use mathlib.Core.List.{List}
 use native.Mathlib.Omega.{arith}
-use lib.Dec.{eqb, leb}
+use lib.Dec.{leb}
 use lib.ListN.{length, getD}
 use borrow.Author.Tests.{not-true, eqb-false}
 use Rattle.laws.specs.Tests.{both}
@@ -16,7 +16,7 @@ use Rattle.framing.specs.declared.Fault.{Fault}
 use Rattle.framing.specs.declared.Fault.the-variants.{Noise, NoSof, Break, Stuck, LateSof, SplitByte, FewBytes, WrongCheck, EodAfterResponse, ThirteenthByte}
 use Rattle.framing.specs.Line.{activeAt, symbolAt, endAt}
 use Rattle.framing.specs.Standing.{Standing, stands}
-use Rattle.framing.specs.Faults.{mostBytes, fault}
+use Rattle.framing.specs.Faults.{mostBytes}
 use Rattle.framing.specs.Reading.{Outcome, good, quiet, unfinished, faulty, faultAt, decided, reading}
 use Rattle.framing.specs.Answers.{faultNumber}
 use Rattle.framing.specs.Outcomes.{Opens, Comes, isPast, isShort, isQuiet, isOpened, comes}

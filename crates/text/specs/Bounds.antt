@@ -1,15 +1,13 @@
 -- How long the desk's text can be: each line, the number of lines, and the whole.
-use Prim.Native.Nat.{ℕ, zero, suc, _+_, _-_, _*_, _%_, _≤_, _<_}
-use mathlib.Core.Path.{_≡_, refl, sym, ap, _∙_}
-use mathlib.Core.Bool.{Bool, true, false, cond, _&&_}
-use mathlib.Core.List.{List, [], _∷_, _++_}
+use Prim.Native.Nat.{ℕ, suc, _+_, _-_, _*_, _%_, _≤_, _<_}
+use mathlib.Core.Path.{_≡_, refl}
+use mathlib.Core.Bool.{true, false}
+use mathlib.Core.List.{List, [], _∷_}
 use mathlib.Core.Logic.{_⊎_, inl, inr}
 use native.Mathlib.Omega.{arith}
 use native.Mathlib.Nat.{eq-or-lt-of-le}
-use lib.Dec.{eqb, leb}
 use lib.ListN.{length, length-append}
-use borrow.Author.Tests.{eqb-true, leb-true}
-use Rattle.laws.specs.Tests.{never, both}
+use Rattle.laws.specs.Tests.{never}
 use Rattle.framing.specs.declared.Response.{Response}
 use Rattle.framing.specs.declared.Response.the-variants.{Without, Plain, Checked}
 use Rattle.framing.specs.declared.Fault.{Fault}
@@ -19,12 +17,11 @@ use Rattle.framing.specs.Reading.{Outcome, good, quiet, unfinished, faulty, ref
 use Rattle.framing.specs.Answers.{faultNumber}
 use Rattle.framing.specs.Outcomes.{goesOn}
 use Rattle.framing.specs.ReadingOn.{nextOf, ReadsOn, last, more, reads-on}
-use Rattle.text.specs.Grammar.{isLabel, mostLabel}
-use Rattle.text.specs.Input.{Line, lines, ownLine, ivLine, ivAt, mostWidths, badFrom, firstBad, customerOf, vehicleOf, recordingOf, widthsFrom, firstLine}
-use Rattle.text.specs.Numerals.{decimal, hex}
-use Rattle.text.specs.Report.{lineOf, header, refusal, atOf, kindOf, mainOf, marked, responseOf, rowOf, rowsOf, answers, report, deskBy, deskOf}
+use Rattle.text.specs.Grammar.{mostLabel}
+use Rattle.text.specs.Input.{lines, mostWidths}
+use Rattle.text.specs.Numerals.{decimal}
+use Rattle.text.specs.Report.{lineOf, header, atOf, kindOf, mainOf, marked, responseOf, rowOf, rowsOf, answers, report}
 use Rattle.text.specs.Calls.{mostText}
-use Rattle.text.specs.GoodLines.{label-size, own-is}
 use Rattle.text.specs.NumeralLaws.{five-digits, two-digits, hex-length}
 use Rattle.text.specs.AnswerLaws.{Answer, isSilence, isOpen, isFrame, isFault, answer-is}
 
@@ -86,6 +83,7 @@ mostRow (unfinished opening) = 55
 mostRow (refused number) = 0
 
 module _ (customer vehicle : List ℕ) (c : length customer ≤ mostLabel) (v : length vehicle ≤ mostLabel) where
+  -- No line is longer.
   pub row-size : (ws : List ℕ) (p : ℕ) (x : Outcome) → length ws ≤ mostWidths → p ≤ length ws → Answer ws p x → length (rowOf customer vehicle x) ≤ mostRow x
   unfolding rowOf
   row-size ws p x h i isSilence =
@@ -154,6 +152,7 @@ module _ (customer vehicle : List ℕ) (c : length customer ≤ mostLabel) (v : 
     pub answers-few : 2 * length (answers ws) ≤ length ws + 2
     answers-few = omega (arith, fits (omega arith) all-read .lines)
 
+    -- No report is longer than what is asked to be lent.
     pub report-size : length (report customer vehicle ws) ≤ mostText
     unfolding report
     report-size = omega (arith, fits (omega arith) all-read .bytes, length-append header (rowsOf customer vehicle (answers ws)))

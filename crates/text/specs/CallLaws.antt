@@ -1,17 +1,16 @@
 -- The desk's calls are settled: each promise leaves one answer and one state of everything lent, and each refusal comes exactly
 -- when its rule holds.
-use Prim.Native.Nat.{ℕ, _≤_, _<_}
+use Prim.Native.Nat.{ℕ, _<_}
 use mathlib.Core.Path.{_≡_, refl, sym, ap, _∙_}
 use mathlib.Core.Bool.{Bool, true, false, cond, _||_}
-use mathlib.Core.List.{List, [], _∷_, _++_}
+use mathlib.Core.List.{List}
 use mathlib.Core.Logic.{_↔_, _⊎_, inl, inr}
 use native.Mathlib.Omega.{arith}
 use lib.Dec.{eqb, ltb}
 use lib.ListN.{length}
-use borrow.Author.Tests.{lt-ltb, le-ltb, ltb-true, ltb-false, eqb-true, eqb-false, ne-eqb}
+use borrow.Author.Tests.{lt-ltb, ltb-true, ltb-false, eqb-true, eqb-false}
 use Rattle.laws.specs.Settled.{settled}
-use Rattle.laws.specs.Tests.{never, upTo, or-right}
-use Rattle.text.specs.declared.Labels.{Labels}
+use Rattle.laws.specs.Tests.{never, or-right}
 use Rattle.text.specs.declared.Judged.{Judged}
 use Rattle.text.specs.declared.Judged.the-variants.{Good, Bad, FewLentWords}
 use Rattle.text.specs.declared.Answered.{Answered}
@@ -19,7 +18,7 @@ use Rattle.text.specs.declared.Answered.the-variants.{Report, Refused, F
 use Rattle.framing.specs.Refusals.{TurnedAway}
 use Rattle.text.specs.Input.{lines, firstBad, mostWidths, customerOf, vehicleOf, recordingOf}
 use Rattle.text.specs.Report.{deskOf}
-use Rattle.text.specs.Calls.{Verdict, good, bad, few, verdictBy, judging, Tale, judgedTold, verdictTells, laidOn, laidWords, JudgePromise, mostText, Page, reported, turnedDown, short, pageBy, lentShort, answering, Told, answeredTold, pageTells, laidText, DeskPromise}
+use Rattle.text.specs.Calls.{good, bad, few, judging, Tale, judgedTold, verdictTells, laidOn, JudgePromise, mostText, reported, turnedDown, short, lentShort, answering, Told, answeredTold, pageTells, DeskPromise}
 
 -- ## One answer
 
@@ -46,6 +45,7 @@ answered-back FewLent = refl
 pub judged-once : (r s : Judged) → judgedTold r ≡ judgedTold s → r ≡ s
 judged-once r s e = sym (judged-back r) ∙ ap judgedOf e ∙ judged-back s
 
+-- the same for the desk's answers
 pub answered-once : (r s : Answered) → answeredTold r ≡ answeredTold s → r ≡ s
 answered-once r s e = sym (answered-back r) ∙ ap answeredOf e ∙ answered-back s
 
@@ -111,9 +111,11 @@ judge-way s lent = go (ltb lent mostWidths) (eqb (firstBad (lines s)) 0) refl re
 -- Judging: 61 exactly where fewer than 16,384 words are lent, and then they are as they were; 62 exactly where enough are lent
 -- and some line is bad, and then the line told of is the first bad one; 0 exactly where enough are lent and no line is bad.
 module _ {s entry exit : List ℕ} {r : Judged} (q : JudgePromise s entry exit r) where
+  -- each number exactly when
   pub judge-exactly : Rules s (length entry < mostWidths) (judgedTold r .number) (judgedTold r .line)
   judge-exactly = rw (q .tells-it) (rules (judge-way s (length entry)))
 
+  -- 61, and no word is changed
   pub judge-61 : TurnedAway (judgedTold r .number) 61 (length entry < mostWidths) entry exit
   judge-61 = record { exactly = judge-exactly .short-exactly; unchanged = λ h. q .lends-it ∙ rw (lt-ltb (length entry) mostWidths h) }
 
@@ -147,12 +149,15 @@ desk-way s words bytes = go (lentShort words bytes) (eqb (firstBad (lines s)) 0)
 -- The desk: 61 exactly where too few words or bytes are lent, and then all are as they were; 62 exactly where enough is lent
 -- and some line is bad, and then the line told of is the first bad one; 0 exactly where enough is lent and no line is bad.
 module _ {s words left entry exit : List ℕ} {r : Answered} (q : DeskPromise s words left entry exit r) where
+  -- each number exactly when
   pub desk-exactly : Rules s (Short (length words) (length entry)) (answeredTold r .number) (answeredTold r .line)
   desk-exactly = rw (q .tells-it) (rules (desk-way s (length words) (length entry)))
 
+  -- 61, and no byte is changed ..
   pub desk-61 : TurnedAway (answeredTold r .number) 61 (Short (length words) (length entry)) entry exit
   desk-61 = record { exactly = desk-exactly .short-exactly; unchanged = λ h. q .lends-it ∙ rw (short-test (length words) (length entry) h) }
 
+  -- .. and no word
   pub desk-61-words : TurnedAway (answeredTold r .number) 61 (Short (length words) (length entry)) words left
   desk-61-words = record { exactly = desk-exactly .short-exactly; unchanged = λ h. q .words-it ∙ rw (short-test (length words) (length entry) h) }
 

@@ -3,10 +3,9 @@
 use Prim.Native.Nat.{ℕ, _+_, _*_}
 use mathlib.Core.Path.{_≡_}
 use mathlib.Core.Bool.{Bool, true, false, cond, _||_}
-use mathlib.Core.List.{List, [], _∷_, _++_}
+use mathlib.Core.List.{List, [], _++_}
 use lib.Dec.{eqb, ltb}
 use lib.ListN.{length, drop}
-use Rattle.text.specs.declared.Labels.{Labels}
 use Rattle.text.specs.declared.Judged.{Judged}
 use Rattle.text.specs.declared.Judged.the-variants.{Good, Bad, FewLentWords}
 use Rattle.text.specs.declared.Answered.{Answered}
@@ -22,6 +21,7 @@ pub data Verdict : Type 0 where
   bad : (line : ℕ) → Verdict
   few : Verdict
 
+-- what judging comes to, by the input's lines
 abbrev pub verdictBy : List Line → Verdict
 verdictBy ls =
     cond (eqb (firstBad ls) 0)
@@ -40,12 +40,14 @@ pub record Tale : Type 0 where
   pub vehicle : ℕ
   pub widths : ℕ
 
+-- the number and the values of each case of the answer to judging
 abbrev pub judgedTold : Judged → Tale
 judgedTold (Good labels widths) =
     record { number = 0; line = 0; customer = labels .customer; vehicle = labels .vehicle; widths = widths }
 judgedTold (Bad line) = record { number = 62; line = line; customer = 0; vehicle = 0; widths = 0 }
 judgedTold FewLentWords = record { number = 61; line = 0; customer = 0; vehicle = 0; widths = 0 }
 
+-- the number and the values of each outcome of judging
 abbrev pub verdictTells : Verdict → Tale
 verdictTells (good customer vehicle widths) = record { number = 0; line = 0; customer = customer; vehicle = vehicle; widths = widths }
 verdictTells (bad line) = record { number = 62; line = line; customer = 0; vehicle = 0; widths = 0 }
@@ -77,6 +79,7 @@ pub data Page : Type 0 where
   turnedDown : (line length : ℕ) → Page
   short : Page
 
+-- which text it is, by the input's lines
 abbrev pub pageBy : List Line → ℕ → Page
 pageBy ls n = cond (eqb (firstBad ls) 0) (reported n) (turnedDown (firstBad ls) n)
 
@@ -94,11 +97,13 @@ pub record Told : Type 0 where
   pub line : ℕ
   pub length : ℕ
 
+-- the number and the values of each case of the desk's answer
 abbrev pub answeredTold : Answered → Told
 answeredTold (Report length) = record { number = 0; line = 0; length = length }
 answeredTold (Refused line length) = record { number = 62; line = line; length = length }
 answeredTold FewLent = record { number = 61; line = 0; length = 0 }
 
+-- the number and the values of each outcome
 abbrev pub pageTells : Page → Told
 pageTells (reported length) = record { number = 0; line = 0; length = length }
 pageTells (turnedDown line length) = record { number = 62; line = line; length = length }

@@ -1,21 +1,20 @@
 -- A fixed amount of input decides. A good input has at most 229,414 bytes, and whatever follows the first 229,415 bytes of an
 -- input changes nothing: the line that is bad is bad whatever it goes on with.
 use Prim.Native.Nat.{ℕ, zero, suc, _+_, _-_, _*_, _≤_, _<_}
-use mathlib.Core.Path.{_≡_, refl, sym, ap, _∙_}
-use mathlib.Core.Bool.{Bool, true, false, cond, _&&_}
+use mathlib.Core.Path.{_≡_, refl, sym, _∙_}
+use mathlib.Core.Bool.{Bool, true, false, _&&_}
 use mathlib.Core.List.{List, [], _∷_, _++_}
 use mathlib.Core.Logic.{_⊎_, inl, inr}
 use native.Mathlib.Omega.{arith}
-use native.Mathlib.Numerals.{add-one}
 use lib.Dec.{eqb, leb}
 use lib.ListN.{length, take, drop, length-append, length-drop}
 use lib.Seq.{length-take-le, take-append-le, drop-append-le}
-use borrow.Author.Tests.{lt-leb, leb-true, ne-eqb}
+use borrow.Author.Tests.{lt-leb, ne-eqb}
 use Rattle.bytes.specs.Bytes.{indexOf, indexAfter}
 use Rattle.laws.specs.Tests.{never, both, upTo}
 use Rattle.text.specs.Grammar.{newline}
 use Rattle.text.specs.Input.{Line, shut, unshut, lines, ownLine, ivLine, ivAt, mostWidths, badFrom, firstBad}
-use Rattle.text.specs.Report.{deskBy, deskOf}
+use Rattle.text.specs.Report.{deskOf}
 use Rattle.text.specs.PieceLaws.{index-le, lines-first, lines-none}
 use Rattle.text.specs.GoodLines.{mostOwn, mostIv, own-size, iv-size}
 

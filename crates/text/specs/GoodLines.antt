@@ -1,7 +1,7 @@
 -- What a good line is made of, and how long it can be.
 use Prim.Native.Nat.{ℕ, suc, _+_, _-_, _*_, _^_, _≤_, _<_}
 use mathlib.Core.Path.{_≡_, refl, sym, ap, _∙_}
-use mathlib.Core.Bool.{Bool, true, false, not, _&&_, _||_}
+use mathlib.Core.Bool.{true, false, _&&_}
 use mathlib.Core.List.{List, [], _∷_, _++_}
 use native.Mathlib.Omega.{arith}
 use native.Mathlib.Nat.{pow-suc, pow-le-pow-right, add-zero}
@@ -10,7 +10,7 @@ use lib.ListN.{length, getD, length-append}
 use borrow.Author.Tests.{eqb-true, eqb-false, leb-true, ltb-true, not-true, ne-eqb}
 use mathlib.Core.Logic.{_⊎_, inl, inr}
 use Rattle.laws.specs.Tests.{never, both, upTo}
-use Rattle.text.specs.Grammar.{tab, pieces, fields, every, isLabel, labelByte, mostLabel, digit, spells, spelt, pastU32, noLeadingZero, isWidth}
+use Rattle.text.specs.Grammar.{tab, fields, every, isLabel, labelByte, mostLabel, digit, spells, spelt, pastU32, noLeadingZero, isWidth}
 use Rattle.text.specs.Input.{Line, field, own, iv, ownLine, ivLine}
 use Rattle.text.specs.PieceLaws.{joined, joined-pieces, same-is}
 
@@ -42,6 +42,7 @@ three (a ∷ b ∷ []) h = absurd (omega arith)
 three (a ∷ b ∷ c ∷ []) h = refl
 three (a ∷ b ∷ c ∷ d ∷ ds) h = absurd (omega arith)
 
+-- A good first line is made so.
 pub own-is : (l : Line) → ownLine l ≡ true → OwnIs l
 unfolding ownLine
 own-is l e =
@@ -57,6 +58,7 @@ own-is l e =
       vehicle = d .1;
     }
 
+-- A good later line is made so.
 pub iv-is : (l : Line) → ivLine l ≡ true → IvIs l
 unfolding ivLine
 iv-is l e =
@@ -72,6 +74,7 @@ iv-is l e =
 
 -- ## How long they are
 
+-- A label has 1 to 16 bytes.
 pub label-size : (l : List ℕ) → isLabel l ≡ true → (1 ≤ length l) × (length l ≤ mostLabel)
 unfolding isLabel
 label-size l e =
@@ -114,13 +117,15 @@ width-size (d ∷ f ∷ ds) e =
         let q : 10 ^ 10 ≤ 10 ^ (0 + length (f ∷ ds)) = pow-le-pow-right {n = 10} (omega arith) {i = 10} {j = 0 + length (f ∷ ds)} (omega arith) in
         absurd (omega arith)
 
--- the most bytes of a good first line and of a good later one, without their newlines
+-- the most bytes of a good first line, without its newline: `own`, two tabs and two labels
 abbrev pub mostOwn : ℕ
 mostOwn = 37
 
+-- and of a good later one: `iv`, a tab and ten digits
 abbrev pub mostIv : ℕ
 mostIv = 13
 
+-- No good first line is longer ..
 pub own-size : (l : Line) → ownLine l ≡ true → length (l .bytes) ≤ mostOwn
 own-size l e =
     let a = own-is l e in
@@ -128,6 +133,7 @@ own-size l e =
     let c = label-size (field 2 l) (a .vehicle) in
     rw (a .made) (omega (arith, length-append (field 1 l) (tab ∷ field 2 l)))
 
+-- .. and no good later one.
 pub iv-size : (l : Line) → ivLine l ≡ true → length (l .bytes) ≤ mostIv
 iv-size l e =
     let a = iv-is l e in

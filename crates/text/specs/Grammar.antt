@@ -7,10 +7,11 @@ use lib.ListN.{length, getD}
 
 -- ## Pieces
 
--- the byte that closes a line, and the byte that parts fields
+-- the byte that closes a line
 abbrev pub newline : ℕ
 newline = 10
 
+-- the byte that parts fields
 abbrev pub tab : ℕ
 tab = 9
 
@@ -71,6 +72,7 @@ unfoldable pub spells : ℕ → List ℕ → ℕ
 spells n [] = n
 spells n (x ∷ xs) = spells (n * 10 + (x - 48)) xs
 
+-- the number that digits spell
 abbrev pub spelt : List ℕ → ℕ
 spelt l = spells 0 l
 

@@ -13,9 +13,11 @@ pub record Line : Type 0 where
   pub bytes : List ℕ
   pub closed : Bool
 
+-- a line that a newline closes
 abbrev pub shut : List ℕ → Line
 shut l = record { bytes = l; closed = true }
 
+-- one that none closes
 abbrev pub unshut : List ℕ → Line
 unshut l = record { bytes = l; closed = false }
 
@@ -82,13 +84,16 @@ abbrev pub firstLine : List Line → Line
 firstLine [] = unshut []
 firstLine (l ∷ ls) = l
 
+-- the lines behind the first
 abbrev pub laterLines : List Line → List Line
 laterLines [] = []
 laterLines (l ∷ ls) = ls
 
+-- the customer's label
 abbrev pub customerOf : List Line → List ℕ
 customerOf ls = field 1 (firstLine ls)
 
+-- the vehicle's label
 abbrev pub vehicleOf : List Line → List ℕ
 vehicleOf ls = field 2 (firstLine ls)
 

@@ -1,7 +1,6 @@
 -- Where the labels of a good input stand in its bytes: the customer's from byte 4 on, the vehicle's behind it and a tab.
 use Prim.Native.Nat.{ℕ, suc, _+_, _-_, _≤_, _<_}
 use mathlib.Core.Path.{_≡_, refl, sym, ap, _∙_}
-use mathlib.Core.Bool.{Bool, true, false}
 use mathlib.Core.List.{List, [], _∷_, _++_, append-assoc, append-nil}
 use mathlib.Core.Logic.{_⊎_, inl, inr}
 use native.Mathlib.Omega.{arith}
@@ -10,7 +9,7 @@ use lib.Seq.{take-at, drop-at}
 use Rattle.bytes.specs.Bytes.{indexOf}
 use Rattle.laws.specs.Tests.{upTo}
 use Rattle.text.specs.Grammar.{newline, tab}
-use Rattle.text.specs.Input.{Line, lines, own, firstBad, firstLine, customerOf, vehicleOf}
+use Rattle.text.specs.Input.{lines, own, firstBad, firstLine, customerOf, vehicleOf}
 use Rattle.text.specs.PieceLaws.{index-le, lines-first, lines-none}
 use Rattle.text.specs.Whole.{good-own}
 
@@ -36,6 +35,7 @@ front-is (x ∷ xs) = go (upTo (length (x ∷ xs)) (indexOf newline (x ∷ xs)))
 abbrev pub customerPlace : ℕ
 customerPlace = 4
 
+-- The labels stand there, and within the input.
 pub record Stand (s customer vehicle : List ℕ) : Type 0 where
   pub customer-stands : take (length customer) (drop customerPlace s) ≡ customer
   pub vehicle-stands : take (length vehicle) (drop (customerPlace + length customer + 1) s) ≡ vehicle
@@ -55,6 +55,7 @@ stand c v t =
         let p : (c ++ (tab ∷ [])) ++ (v ++ t) ≡ c ++ (tab ∷ (v ++ t)) = append-assoc c (tab ∷ []) (v ++ t) in
         rw (n, ← p) (drop-at (c ++ (tab ∷ [])) (v ++ t) (length c + 1) (length-append c (tab ∷ [])))
 
+-- Those of a good input do.
 pub labels-stand : (s : List ℕ) → firstBad (lines s) ≡ 0 → Stand s (customerOf (lines s)) (vehicleOf (lines s))
 labels-stand s e =
     let f = front-is s in

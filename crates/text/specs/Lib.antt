@@ -13,3 +13,5 @@ pub mod Whole
 pub mod LabelPlaces
 pub mod CallLaws
 pub mod Labelled
+pub mod Refused
+pub mod Example

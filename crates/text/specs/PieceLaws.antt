@@ -1,7 +1,7 @@
 -- Laws of pieces and of lines: where the first one ends, that every text is its pieces put together again, and what it takes
 -- for a text to have one piece only.
 use Prim.Native.Nat.{ℕ, suc, _≤_, _<_}
-use mathlib.Core.Path.{_≡_, refl, sym, ap, _∙_}
+use mathlib.Core.Path.{_≡_, refl, _∙_}
 use mathlib.Core.Bool.{Bool, true, false, cond, _&&_, and-false}
 use mathlib.Core.List.{List, [], _∷_, _++_}
 use native.Mathlib.Omega.{arith}
@@ -11,10 +11,11 @@ use borrow.Author.Tests.{eqb-true}
 use Rattle.bytes.specs.Bytes.{indexOf, indexAfter}
 use Rattle.laws.specs.Tests.{never}
 use Rattle.text.specs.Grammar.{newline, longer, pieces, every, same}
-use Rattle.text.specs.Input.{Line, shut, unshut, onto, lines}
+use Rattle.text.specs.Input.{shut, unshut, onto, lines}
 
 -- ## The first piece
 
+-- The first b stands within the text, or nowhere.
 pub index-le : (b : ℕ) (s : List ℕ) → indexOf b s ≤ length s
 unfolding indexOf indexAfter
 index-le b [] = omega arith
@@ -51,6 +52,7 @@ pieces-none b (x ∷ xs) h = go (eqb x b) (pieces-none b xs) h
 
 -- ## The first line
 
+-- The first line ends at the first newline, and the lines behind it are those of what follows.
 pub lines-first : (s : List ℕ) → indexOf newline s < length s
     → lines s ≡ shut (take (indexOf newline s) s) ∷ lines (drop (suc (indexOf newline s)) s)
 unfolding indexOf indexAfter lines
@@ -90,6 +92,7 @@ pub data Shape (test : ℕ → Bool) (b : ℕ) (s : List ℕ) : Type 0 where
   one : pieces b s ≡ s ∷ [] → Shape test b s
   several : (p q : List ℕ) (ps : List (List ℕ)) → pieces b s ≡ p ∷ q ∷ ps → every test s ≡ false → Shape test b s
 
+-- Every text is one of the two.
 pub shape : (test : ℕ → Bool) (b : ℕ) → test b ≡ false → (s : List ℕ) → Shape test b s
 unfolding pieces every
 shape test b z [] = one refl

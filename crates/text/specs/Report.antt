@@ -1,6 +1,6 @@
 -- The desk's output: the whole text as a function of the input's bytes.
 use Prim.Native.Nat.{ℕ, _+_}
-use mathlib.Core.Bool.{Bool, true, false, cond}
+use mathlib.Core.Bool.{cond}
 use mathlib.Core.List.{List, [], _∷_, _++_}
 use lib.Dec.{eqb}
 use lib.ListN.{length}
@@ -63,10 +63,11 @@ w-fault = 102 ∷ 97 ∷ 117 ∷ 108 ∷ 116 ∷ 45 ∷ []
 abbrev pub w-none : List ℕ
 w-none = 45 ∷ []
 
--- `p:` and `c:`
+-- `p:`, before a response of bytes alone
 abbrev pub w-plain : List ℕ
 w-plain = 112 ∷ 58 ∷ []
 
+-- `c:`, before one with a check byte of its own
 abbrev pub w-checked : List ℕ
 w-checked = 99 ∷ 58 ∷ []
 
@@ -119,6 +120,7 @@ marked Without response = w-none
 marked Plain response = w-plain ++ hex response
 marked Checked response = w-checked ++ hex response
 
+-- the last field of a line
 abbrev pub responseOf : Outcome → List ℕ
 responseOf (good main response kind opening next) = marked kind response
 responseOf (quiet next) = w-none
@@ -132,6 +134,7 @@ rowOf customer vehicle x = lineOf (customer ∷ vehicle ∷ decimal (atOf x) ∷
 
 -- ## The whole text
 
+-- a line for each answer
 unfoldable pub rowsOf : List ℕ → List ℕ → List Outcome → List ℕ
 rowsOf customer vehicle [] = []
 rowsOf customer vehicle (x ∷ xs) = rowOf customer vehicle x ++ rowsOf customer vehicle xs

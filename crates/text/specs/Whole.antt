@@ -1,21 +1,21 @@
 -- The whole text: what a good and a bad input come to, and how much there is of it.
-use Prim.Native.Nat.{ℕ, zero, suc, _+_, _-_, _*_, _≤_, _<_}
-use mathlib.Core.Path.{_≡_, refl, sym, ap, _∙_}
-use mathlib.Core.Bool.{Bool, true, false, cond, _&&_}
-use mathlib.Core.List.{List, [], _∷_, _++_}
+use Prim.Native.Nat.{ℕ, _+_, _-_, _≤_}
+use mathlib.Core.Path.{_≡_, refl}
+use mathlib.Core.Bool.{Bool, true, false, cond}
+use mathlib.Core.List.{List, [], _∷_}
 use native.Mathlib.Omega.{arith}
 use lib.Dec.{eqb, leb}
 use lib.ListN.{length, length-append}
-use borrow.Author.Tests.{eqb-true, leb-true, ne-eqb, eqb-false}
-use Rattle.laws.specs.Tests.{never, both}
+use borrow.Author.Tests.{eqb-true, leb-true, ne-eqb}
+use Rattle.laws.specs.Tests.{both}
 use Rattle.text.specs.Grammar.{spelt}
 use Rattle.text.specs.Input.{Line, lines, field, ownLine, ivLine, ivAt, mostWidths, badFrom, widthsFrom, firstBad, firstLine, laterLines, customerOf, vehicleOf, recordingOf}
 use Rattle.text.specs.Numerals.{decimal}
-use Rattle.text.specs.Report.{w-refused, lineOf, refusal, answers, report, deskBy, deskOf}
+use Rattle.text.specs.Report.{refusal, report, deskOf}
 use Rattle.text.specs.Calls.{mostText}
 use Rattle.text.specs.GoodLines.{OwnIs, own-is, label-size}
 use Rattle.text.specs.NumeralLaws.{five-digits}
-use Rattle.text.specs.Bounds.{answers-few, report-size}
+use Rattle.text.specs.Bounds.{report-size}
 
 -- ## Good and bad
 
@@ -28,11 +28,12 @@ good-own (l ∷ ls) e = own-is l (go (ownLine l) refl e)
     go true p q = p
     go false p q = absurd (omega arith)
 
--- The text of a good input is its report, that of a bad one the refusal with its first bad line's number.
+-- The text of a good input is its report ..
 pub desk-good : (s : List ℕ) → firstBad (lines s) ≡ 0 → deskOf s ≡ report (customerOf (lines s)) (vehicleOf (lines s)) (recordingOf (lines s))
 unfolding deskOf
 desk-good s e = rw e
 
+-- .. and that of a bad one the refusal with its first bad line's number.
 pub desk-bad : (s : List ℕ) → ¬ (firstBad (lines s) ≡ 0) → deskOf s ≡ refusal (firstBad (lines s))
 unfolding deskOf
 desk-bad s n = rw (ne-eqb (firstBad (lines s)) 0 n)

@@ -4,5 +4,7 @@
 // A place in a recording: the number of intervals that stand before it. Even places are passive, odd ones active.
 pub struct Place(pub usize);
 
-// A width: the time that an interval lasts, in microseconds.
+// A width: the time that an interval lasts, in microseconds. Laid out as C has it, since clocks hold widths and
+// other languages hand clocks over.
+#[repr(C)]
 pub struct Micros(pub u32);

@@ -1,6 +1,6 @@
 -- The loop of `some_unusable`, at sample i: the answer for the samples that are left is the answer for all. Assumes nothing.
 use Prim.Native.Nat.{ℕ, _+_, _≤_, _<_}
-use mathlib.Core.Path.{_≡_, sym, ap, _∙_}
+use mathlib.Core.Path.{_≡_}
 use mathlib.Core.Bool.{Bool, true, false}
 use mathlib.Core.List.{List}
 use native.Mathlib.Numerals.{add-one}

@@ -1,9 +1,8 @@
 -- The edges of the rules, worked from the definitions: points that document 01 settles in a word or leaves to the reader, each
 -- as one small case. Nothing else rests on them; they show that the definitions mean what one expects.
-use Prim.Native.Nat.{ℕ}
 use mathlib.Core.Path.{_≡_, refl}
 use mathlib.Core.Bool.{Bool, true, false}
-use mathlib.Core.List.{List, [], _∷_}
+use mathlib.Core.List.{[], _∷_}
 use lib.Count.{trailingZeros}
 use lib.Ieee.{Float, nan, inf, fin, ofInt, sub, add, neg, sum, round, size, units, odd, span, climb, lt, le, eq}
 use lib.IntN.{pos, negsuc}
@@ -30,6 +29,7 @@ largest negative = fin negative 0xff_ffff (pos 104)
 abbrev pub tiny : Float
 tiny = fin false 1 (negsuc 29)
 
+-- the cases
 pub record Edges : Type 0 where
   -- "At or above", "at or below": a sample exactly at a level
   pub at-active : judged usualGate (usualGate .active) ≡ Active (usualGate .active)
@@ -52,6 +52,7 @@ pub record Edges : Type 0 where
   pub one-word : outcome usualGate [] (0 ∷ []) ≡ wrote 0
   pub no-word : outcome usualGate [] [] ≡ turnedAway 32
 
+-- They are so.
 pub edges : Edges
 unfolding outcome tooManySamples gateNotGood goodGate tooFewWords sampleUnusable judged against isFinite ofInt sub add neg sum round size units odd span climb lt le eq trailingZeros
 edges = record {

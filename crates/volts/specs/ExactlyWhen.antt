@@ -8,7 +8,7 @@ use mathlib.Core.Logic.{_↔_}
 use lib.Ieee.{Float}
 use lib.ListN.{length, drop}
 use Rattle.volts.specs.Intervals.{intervalsOf}
-use Rattle.volts.specs.Tracing.{Outcome, wrote, turnedAway, numbered, wordsAfter, Promise}
+use Rattle.volts.specs.Tracing.{wrote, turnedAway, numbered, wordsAfter, Promise}
 use Rattle.volts.specs.Tracing.{tooManySamples, gateNotGood, tooFewWords, sampleUnusable, firstRefusal, outcome}
 use Rattle.volts.specs.Settling.{same-number}
 use Rattle.volts.specs.declared.Gate.{Gate}
@@ -81,16 +81,20 @@ module _ {g : Gate} {s : List Float} {lent : List ℕ} {r : Traced} {left : List
   pub untouched : (k : ℕ) → numbered r ≡ turnedAway k → left ≡ lent
   untouched k e = p .leaves ∙ rw (sym (p .answers) ∙ e)
 
+  -- 33: "more than 16,384 samples"
   pub exactly-33 : (numbered r ≡ turnedAway 33) ↔ (tooManySamples s ≡ true)
   exactly-33 = exactly TooManySamples
 
+  -- 34: "gate not good", where 33 does not apply
   pub exactly-34 : (numbered r ≡ turnedAway 34) ↔ ((tooManySamples s ≡ false) × (gateNotGood g ≡ true))
   exactly-34 = exactly BadGate
 
+  -- 32: "lent words .. under samples + 1", where neither applies
   pub exactly-32 : (numbered r ≡ turnedAway 32)
       ↔ ((tooManySamples s ≡ false) × (gateNotGood g ≡ false) × (tooFewWords s lent ≡ true))
   exactly-32 = exactly TooFewWords
 
+  -- 35: "some sample unusable", where none of them applies
   pub exactly-35 : (numbered r ≡ turnedAway 35)
       ↔ ((tooManySamples s ≡ false) × (gateNotGood g ≡ false) × (tooFewWords s lent ≡ false) × (sampleUnusable g s ≡ true))
   exactly-35 = exactly UnusableSample

@@ -1,7 +1,7 @@
 -- The intervals say what the judged samples say, sample by sample: laid out again, each for as long as it lasts and the levels
 -- alternating from passive, they are the levels of the trace, and no other intervals are. Laws, with the definition of laying
 -- out.
-use Prim.Native.Nat.{ℕ, zero, suc, _+_, _≤_, _<_}
+use Prim.Native.Nat.{ℕ, zero, suc, _+_, _<_}
 use mathlib.Core.Path.{_≡_, refl, sym, ap, _∙_}
 use mathlib.Core.Bool.{Bool, true, false, not}
 use mathlib.Core.List.{List, [], _∷_, _++_}

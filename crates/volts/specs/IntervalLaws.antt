@@ -3,7 +3,7 @@
 use Prim.Native.Nat.{ℕ, suc, _+_, _≤_, _<_}
 use mathlib.Core.Path.{_≡_, refl, ap, _∙_}
 use mathlib.Core.Bool.{Bool, true, false}
-use mathlib.Core.List.{List, [], _∷_, map}
+use mathlib.Core.List.{List, [], _∷_}
 use native.Mathlib.Omega.{arith}
 use lib.Ieee.{Float}
 use lib.ListN.{length, length-map}
@@ -23,6 +23,7 @@ abbrev pub later : List ℕ → List ℕ
 later [] = []
 later (w ∷ ws) = ws
 
+-- each of the widths is at least 1
 abbrev pub AtLeastOne : List ℕ → Type 0
 AtLeastOne [] = Unit
 AtLeastOne (w ∷ ws) = (1 ≤ w) × AtLeastOne ws
@@ -64,6 +65,7 @@ runs-later true r (false ∷ bs) = runs-positive false 1 bs (omega arith)
 runs-later false r (false ∷ bs) = runs-later false (suc r) bs
 runs-later false r (true ∷ bs) = runs-positive true 1 bs (omega arith)
 
+-- Every run but the first has begun with a sample.
 pub widths-later : (bs : List Bool) → AtLeastOne (later (widths bs))
 widths-later [] = tt
 widths-later (b ∷ bs) = runs-later false 0 (b ∷ bs)

@@ -29,6 +29,7 @@ levelsFrom former (j ∷ js) = levelAfter former j ∷ levelsFrom (levelAfter fo
 abbrev pub levels : List Judged → List Bool
 levels js = levelsFrom false js
 
+-- a judgement says that its sample cannot be used
 abbrev pub isUnusable : Judged → Bool
 isUnusable (Active d) = false
 isUnusable (Passive d) = false

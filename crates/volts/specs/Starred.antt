@@ -29,12 +29,14 @@ starredSamples = volts 0 ∷ volts 7 ∷ volts 3 ∷ volts 3 ∷ volts 1 ∷ []
 abbrev pub starredIntervals : List ℕ
 starredIntervals = 1 ∷ 3 ∷ 1 ∷ []
 
+-- two lists of widths are the same
 abbrev pub sameWidths : List ℕ → List ℕ → Bool
 sameWidths [] [] = true
 sameWidths [] (w ∷ ws) = false
 sameWidths (v ∷ vs) [] = false
 sameWidths (v ∷ vs) (w ∷ ws) = eqb v w && sameWidths vs ws
 
+-- The samples have these intervals.
 pub starred-intervals : intervalsOf usualGate starredSamples ≡ starredIntervals
 unfolding judged against isFinite ofInt sub add neg sum round size units odd span climb lt le eq trailingZeros
 starred-intervals = refl
@@ -43,6 +45,7 @@ starred-intervals = refl
 unfoldable pub starredTrace : Bool
 starredTrace = sameWidths (intervalsOf usualGate starredSamples) starredIntervals
 
+-- The test says true.
 pub starred-trace : starredTrace ≡ true
 unfolding starredTrace
 starred-trace = rw starred-intervals

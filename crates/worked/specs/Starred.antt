@@ -43,6 +43,7 @@ isSo (intervalsAre gate samples widths) = sameWidths (intervalsOf gate samples) 
 isSo (lostAt a b bit) = losesAt a b bit
 isSo (roundLasts a b words time) = lasts a b words time
 
+-- every item of a list is so
 unfoldable pub all : List Item → Bool
 all [] = true
 all (item ∷ items) = isSo item && all items
@@ -60,6 +61,7 @@ ones = holds nominalClock (0xFF ∷ [])
 abbrev zeros : Station
 zeros = holds nominalClock (0x00 ∷ [])
 
+-- the starred items, in the order of document 01
 unfoldable pub items : List Item
 items =
     checkIs (0x00 ∷ []) 0x3B ∷

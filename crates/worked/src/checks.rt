@@ -1,6 +1,7 @@
 // The check byte of document 01's examples and of published vectors.
 use crate::print;
 
+// One line: a message and its check byte.
 fn vector(message: &[u8]) {
     print::word(b"check ");
     print::bytes(message);
@@ -34,6 +35,7 @@ pub(crate) fn single_bytes() {
     }
 }
 
+// One line: the check bytes of sixteen messages, from this one on.
 fn row(first: u8) {
     print::word(b"checks of ");
     print::byte(first);

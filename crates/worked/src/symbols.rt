@@ -26,6 +26,7 @@ fn mark(s: Symbol) -> u8 {
     }
 }
 
+// A symbol's name, as document 01 has it.
 fn name(s: Symbol) {
     match s {
         Symbol::Noise => print::word(b"noise"),
@@ -80,6 +81,7 @@ fn with_short(width: u32) -> Clock {
     }
 }
 
+// The same for its long bit.
 fn with_long(width: u32) -> Clock {
     let usual = symbol::nominal();
     let short = usual.short;
@@ -91,6 +93,7 @@ fn with_long(width: u32) -> Clock {
     }
 }
 
+// The same for its SOF.
 fn with_sof(width: u32) -> Clock {
     let usual = symbol::nominal();
     let short = usual.short;
@@ -113,6 +116,7 @@ fn tried(which: u8, width: u32) -> Clock {
     with_sof(width)
 }
 
+// One line: from this width on the clock is good, or bad.
 fn judged(which: u8, width: u32, good: bool) {
     print::word(b"clock ");
     if which == 0 {
@@ -133,6 +137,7 @@ fn judged(which: u8, width: u32, good: bool) {
     }
 }
 
+// Every width up to the last tried, with a line for each at which the clock becomes good or bad.
 fn sending_window(which: u8) {
     let mut width: u32 = 0;
     let mut before = symbol::good_clock(tried(which, 0));
@@ -154,6 +159,7 @@ pub(crate) fn clocks() {
     sending_window(2);
 }
 
+// One line: the width that a symbol is sent with at a level, or that it never is.
 fn width_sent(active: bool, s: Symbol) {
     print::level(active);
     print::word(b" ");

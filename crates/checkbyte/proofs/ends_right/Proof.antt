@@ -7,12 +7,12 @@ use borrow.Author.Needs.{needs}
 use Rattle.checkbyte.proofs.ends_right.Statement.{statement}
 use Rattle.checkbyte.proofs.ends_right.Tie as tie
 
-register-requires : tie.Need-register-requires
-register-requires c κs = search needs
+register-from-requires : tie.Need-register-from-requires
+register-from-requires c κs = search needs
 
 returns : tie.Need-returns
 unfolding endsRight
-returns c = ap (λ (r : ℕ). eqb r residue) (c .register .ensures)
+returns c = ap (λ (r : ℕ). eqb r residue) (c .register-from .ensures)
 
 pub ends-right-spec : {M : Type 1} → statement M
-ends-right-spec = tie.close (tie.spec register-requires returns)
+ends-right-spec = tie.close (tie.spec register-from-requires returns)

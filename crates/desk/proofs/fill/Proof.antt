@@ -1,8 +1,7 @@
 -- `desk::fill` meets its contract: what is read so far stands in the buffer, and each turn reads more.
 use Prim.Native.Nat.{_≤_, _-_}
-use mathlib.Core.Path.{_≡_, refl}
+use mathlib.Core.Path.{_≡_}
 use lib.ListN.{length}
-use native.Mathlib.Omega.{arith}
 use Rattle.io.proofs.Counting.{counts}
 use borrow.Author.Needs.{needs}
 use Rattle.desk.proofs.fill.Statement.{statement}

@@ -1,8 +1,7 @@
 -- `volts::intervals` meets its contract: at each return the tests on the way are the rule of the answer that is given.
 -- Assumes nothing.
-use mathlib.Core.Path.{_≡_, refl, sym, ap, _∙_}
+use mathlib.Core.Path.{refl, sym, _∙_}
 use borrow.Author.Needs.{needs}
-use lib.ListN.{length}
 use Rattle.volts.specs.ExactlyWhen.{promised}
 use Rattle.volts.proofs.Rules.{too-many, not-too-many, too-few, not-too-few, gate-test, none}
 use Rattle.volts.proofs.intervals.Statement.{statement}

@@ -54,7 +54,7 @@ use Rattle.contest.proofs.Station.Laws as T′
 use Rattle.rows.specs.declared.Bench.{Bench}
 use Rattle.rows.specs.Benches.{benchOf}
 use Rattle.bench.specs.Restoring.{gathered, gather-start, gather-more, gather-all, gather-length}
-use Rattle.bench.proofs.Walk.{Places, envOf, allocs-all, frees-all, calls-plain, tests, scaled, upFrom, lies, Opened}
+use Rattle.laws.specs.Walk.{Places, envOf, allocs-all, frees-all, calls-plain, tests, scaled, upFrom, lies, Opened}
 use Rattle.bench.proofs.Cells.{R32, av, into-row, out-of-row, typed32}
 use Rattle.rows.proofs.Bench as B
 use Rattle.rows.proofs.Bench.Laws as B′

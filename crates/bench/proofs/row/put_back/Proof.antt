@@ -52,7 +52,7 @@ use Rattle.contest.proofs.Station.Laws as T′
 use Rattle.rows.specs.declared.Bench.{Bench}
 use Rattle.rows.specs.Scan.{filled, fill-start, fill-ahead, fill-more, fill-length, fill-all}
 use Rattle.bench.specs.Restoring.{putBack, put-length}
-use Rattle.bench.proofs.Walk.{Places, envOf, Locals, allocs-all, frees-all, calls-plain, tests, scaled, upFrom, lies}
+use Rattle.laws.specs.Walk.{Places, envOf, Locals, allocs-all, frees-all, calls-plain, tests, scaled, upFrom, lies}
 use Rattle.rows.proofs.Bench as B
 use Rattle.rows.proofs.Bench.Laws as B′
 use Rattle.rows.proofs.station_at as station-at

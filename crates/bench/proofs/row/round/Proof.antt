@@ -47,7 +47,7 @@ use Rattle.rows.specs.Benches.{benchOf}
 use Rattle.rounds.specs.Rounds.{PlayedBy}
 use Rattle.bench.specs.Restoring.{putBack, put-length}
 use Rattle.bench.specs.LentRound.{round-kept}
-use Rattle.bench.proofs.Walk.{envOf, allocs-all, frees-all, upFrom, lies}
+use Rattle.laws.specs.Walk.{envOf, allocs-all, frees-all, upFrom, lies}
 use Rattle.bench.proofs.Passing.{bval, Gathered, PutBack, calls-gathered, calls-put-back}
 use Rattle.rows.proofs.Bench as B
 use Rattle.rows.proofs.Bench.Laws as B′

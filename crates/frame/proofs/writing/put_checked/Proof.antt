@@ -1,13 +1,14 @@
 -- `frame::put_checked` meets its contract: the bytes, and behind them their check byte.
 use mathlib.Core.Path.{_∙_}
 use native.Mathlib.Omega.{arith}
+use Rattle.checkbyte.specs.Register.{checkFrom}
 use Rattle.frame.proofs.Words.{check-laid}
 use borrow.Author.Needs.{needs}
 use Rattle.frame.proofs.writing.put_checked.Statement.{statement}
 use Rattle.frame.proofs.writing.put_checked.Tie as tie
 
-check-byte-requires : tie.Need-check-byte-requires
-check-byte-requires c κs = search needs
+check-from-requires : tie.Need-check-from-requires
+check-from-requires c κs = search needs
 
 put-bytes-requires : tie.Need-put-bytes-requires
 put-bytes-requires c κs = search needs
@@ -21,12 +22,12 @@ same-length c = search needs
 returns : tie.Need-returns
 returns c =
     let a = c .before .before .before .before .before .before .before .before .before .before .before .args in
-    let check = c .before .before .before .before .before .before .before .before .check-byte .ensures in
+    let check = c .before .before .before .before .before .before .before .before .check-from .ensures in
     let laid = c .before .before .before .before .before .before .put-bytes .ensures in
     let last = c .before .before .put-byte .ensures in
-    (omega (arith, last .0, laid .0), last .1 ∙ rw (laid .1, laid .0, check) (check-laid (a .clock) (a .bytes .now) (a .lent .now) (a .at)))
+    (omega (arith, last .0, laid .0), last .1 ∙ rw (laid .1, laid .0, check) (check-laid (a .clock) (checkFrom (a .register) (a .bytes .now)) (a .bytes .now) (a .lent .now) (a .at)))
 
 pub put-checked-spec : {M : Type 1} → statement M
 put-checked-spec =
     tie.close
-    (tie.spec check-byte-requires put-bytes-requires put-byte-requires same-length returns)
+    (tie.spec check-from-requires put-bytes-requires put-byte-requires same-length returns)

@@ -1,7 +1,8 @@
 -- `frame::put_frame` meets its contract: the parts of the frame, laid one behind the other.
+use mathlib.Core.Path.{_∙_}
 use native.Mathlib.Omega.{arith}
 use lib.ListN.{length-set}
-use Rattle.frame.proofs.Words.{main-room, response-room, closing-room, response-long, closing-last, frame-laid}
+use Rattle.frame.proofs.Words.{afresh, main-room, response-room, closing-room, response-long, closing-last, frame-laid}
 use Rattle.frame.proofs.writing.put_frame.Statement.{statement}
 use Rattle.frame.proofs.writing.put_frame.Tie as tie
 
@@ -60,7 +61,7 @@ returns c =
     let main = c .before .before .before .before .before .before .put-checked .ensures in
     let reply = c .before .before .put-response .ensures in (
       closing-last (a .clock) (a .main .now) (a .kind) (a .response .now) (a .lent .now) (c .before .before .before .before .before .before .before .before .before .before .before .before .pre) _ _ _ _ (main .0) (main .1) _ _ (reply .0) (reply .1),
-      rw (reply .1, reply .0, main .1, main .0) (frame-laid (a .clock) (a .main .now) (a .kind) (a .response .now) (a .lent .now)),
+      rw (reply .1, reply .0, main .1 ∙ afresh (a .clock) (a .main .now) _ _, main .0) (frame-laid (a .clock) (a .main .now) (a .kind) (a .response .now) (a .lent .now)),
     )
 
 pub put-frame-spec : {M : Type 1} → statement M

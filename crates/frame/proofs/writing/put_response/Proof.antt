@@ -10,7 +10,7 @@ use Rattle.symbol.specs.Sending.{bitWidth}
 use Rattle.checkbyte.specs.Register.{withCheck}
 use Rattle.framing.specs.Writing.{byteWidths}
 use Rattle.framing.specs.WidthLaws.{byte-widths-length, with-check-length}
-use Rattle.frame.proofs.Words.{plain-room, checked-room, response-laid}
+use Rattle.frame.proofs.Words.{plain-room, checked-room, response-laid, afresh}
 use borrow.Author.Needs.{needs}
 use Rattle.frame.proofs.writing.put_response.Statement.{statement}
 use Rattle.frame.proofs.writing.put_response.Tie as tie
@@ -63,10 +63,11 @@ returns-3 c =
     let a = c .before .before .before .before .before .before .before .before .before .before .before .before .args in
     let head = c .before .before .before .before .before .before .put-eod2 .ensures in
     let tail = c .before .before .put-checked .ensures in
+    let laid = tail .1 ∙ afresh (a .clock) (a .response .now) _ _ in
     let count : length (byteWidths (a .clock) (withCheck (a .response .now))) ≡ 8 * (length (a .response .now) + 1) =
     byte-widths-length (a .clock) (withCheck (a .response .now)) ∙ ap (λ (n : ℕ). 8 * n) (with-check-length (a .response .now)) in
     rw (c .before .before .before .before .before .before .before .before .enum-told3 .given .1)
-    (omega (arith, head .0, tail .0), tail .1 ∙ rw (head .1, head .0) (response-laid (a .lent .now) (a .at) (a .clock .sof .0) (bitWidth (a .clock) true false .0) (byteWidths (a .clock) (withCheck (a .response .now)))))
+    (omega (arith, head .0, tail .0), laid ∙ rw (head .1, head .0) (response-laid (a .lent .now) (a .at) (a .clock .sof .0) (bitWidth (a .clock) true false .0) (byteWidths (a .clock) (withCheck (a .response .now)))))
 
 pub put-response-spec : {M : Type 1} → statement M
 put-response-spec =

@@ -1,5 +1,4 @@
 -- `answers::kind_of` gives the kind of each number.
-use mathlib.Core.Path.{_≡_, refl, sym, ap, _∙_}
 use borrow.Author.Tests.{eq-eqb, ne-eqb}
 use Rattle.j1850.proofs.answers.kind_of.Statement.{statement}
 use Rattle.j1850.proofs.answers.kind_of.Tie as tie

@@ -1,5 +1,5 @@
 -- `answers::no_such_kind` tells a bad clock before the kind.
-use mathlib.Core.Path.{_≡_, refl, sym, ap, _∙_}
+use mathlib.Core.Path.{sym, ap, _∙_}
 use borrow.Author.Needs.{needs}
 use mathlib.Core.Bool.{Bool, cond, not}
 use Rattle.framing.specs.Writing.{turnedAway, counts}

@@ -1,5 +1,5 @@
 -- `answers::read_as` gives the numbers of the answer: at each arm the answer is the arm's case.
-use mathlib.Core.Path.{_≡_, refl, sym, ap, _∙_}
+use mathlib.Core.Path.{sym, ap, _∙_}
 use Rattle.framing.specs.declared.Reading.{Reading}
 use Rattle.framing.specs.Answers.{told, bare}
 use Rattle.j1850.specs.Answers.{readAs}

@@ -1,5 +1,5 @@
 -- `answers::traced` gives the numbers of the answer: at each arm the answer is the arm's case.
-use mathlib.Core.Path.{_≡_, refl, sym, ap, _∙_}
+use mathlib.Core.Path.{sym, ap}
 use Rattle.volts.specs.declared.Traced.{Traced}
 use Rattle.volts.specs.Tracing.{numbered}
 use Rattle.j1850.specs.Answers.{tracedAs}

@@ -1,5 +1,5 @@
 -- `answers::written` gives the numbers of the answer: at each arm the answer is the arm's case.
-use mathlib.Core.Path.{_≡_, refl, sym, ap, _∙_}
+use mathlib.Core.Path.{sym, ap}
 use Rattle.framing.specs.declared.Writing.{Writing}
 use Rattle.framing.specs.Writing.{counted}
 use Rattle.j1850.specs.Answers.{countedAs}

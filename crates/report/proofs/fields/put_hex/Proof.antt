@@ -2,7 +2,6 @@
 use Rattle.report.proofs.Laying.{Hexing, hexing-start, hexing-on, hexing-end, hexing-room, hexing-second}
 use lib.ListN.{length}
 use Prim.Native.Nat.{_-_}
-use native.Mathlib.Omega.{arith}
 use borrow.Author.Needs.{needs}
 use Rattle.report.proofs.fields.put_hex.Statement.{statement}
 use Rattle.report.proofs.fields.put_hex.Tie as tie

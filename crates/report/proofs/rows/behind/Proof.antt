@@ -1,6 +1,5 @@
 -- `report::behind` meets its contract, arm by arm.
-use mathlib.Core.Path.{_≡_, sym, ap}
-use Rattle.framing.specs.declared.Reading.{Reading}
+use mathlib.Core.Path.{sym, ap}
 use Rattle.report.specs.Laying.{behindOf}
 use borrow.Author.Needs.{needs}
 use Rattle.report.proofs.rows.behind.Statement.{statement}

@@ -1,6 +1,5 @@
 -- `report::place` meets its contract, arm by arm.
-use mathlib.Core.Path.{_≡_, sym, ap}
-use Rattle.framing.specs.declared.Reading.{Reading}
+use mathlib.Core.Path.{sym, ap}
 use Rattle.report.specs.Laying.{placeOf}
 use borrow.Author.Needs.{needs}
 use Rattle.report.proofs.rows.place.Statement.{statement}

@@ -1,6 +1,6 @@
 -- `rounds::count_of` meets its contract.
 use native.Mathlib.Omega.{arith}
-use Rattle.rows.proofs.Whole.{whole}
+use Rattle.rounds.proofs.Whole.{whole}
 use Rattle.rounds.specs.EntryLaws.{count-none, count-some}
 use borrow.Author.Needs.{needs}
 use Rattle.rounds.proofs.entries.count_of.Statement.{statement}

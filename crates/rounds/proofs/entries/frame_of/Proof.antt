@@ -1,5 +1,5 @@
 -- `rounds::frame_of` meets its contract: the bytes are copied in front, the check byte stands behind them.
-use Rattle.rows.proofs.Whole.{whole}
+use Rattle.rounds.proofs.Whole.{whole}
 use mathlib.Core.Path.{refl, sym}
 use native.Mathlib.Omega.{arith}
 use lib.ListN.{length}

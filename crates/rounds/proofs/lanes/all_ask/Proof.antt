@@ -20,9 +20,6 @@ loop-holds c = (search needs, ask-start _ _ _ _)
 sub-i : tie.Need-sub-i Inv-loop μ-loop
 sub-i c = search needs
 
-lane-at-requires : tie.Need-lane-at-requires Inv-loop μ-loop
-lane-at-requires c κs = search needs
-
 asks-requires : tie.Need-asks-requires Inv-loop μ-loop
 asks-requires c κs = search needs
 
@@ -34,8 +31,8 @@ loop-less c = search needs
 
 loop-again : tie.Need-loop-again Inv-loop μ-loop
 loop-again c =
-    let a = c .before .before .before .before in
-    (search needs, ask-more _ _ _ _ (a .loop .i) (c .before .before .before .loop-test .taken) (a .loop .inv .0) _ (c .before .before .lane-at .ensures) _ (c .before .asks .ensures) _ _ (a .loop .inv .1) (c .taken-in .ensures))
+    let a = c .before .before .before in
+    (search needs, ask-more _ _ _ _ (a .loop .i) (c .before .before .loop-test .taken) (a .loop .inv .0) _ (c .before .asks .ensures) _ _ (a .loop .inv .1) (c .taken-in .ensures))
 
 returns : tie.Need-returns Inv-loop μ-loop
 returns c = ask-all _ _ _ _ (c .before .loop .i) (c .loop-test .left) _ (c .before .loop .inv .1)
@@ -48,7 +45,6 @@ all-ask-spec =
     μ-loop
     loop-holds
     sub-i
-    lane-at-requires
     asks-requires
     taken-in-requires
     loop-less

@@ -18,11 +18,14 @@ abbrev μ-loop : tie.MeasureT-loop
 loop-holds : tie.Need-loop-holds Inv-loop μ-loop
 loop-holds c = (search needs, search needs, fill-start _ _)
 
-lane-at-requires : tie.Need-lane-at-requires Inv-loop μ-loop
-lane-at-requires c κs = search needs
-
 asks-requires : tie.Need-asks-requires Inv-loop μ-loop
 asks-requires c κs = search needs
+
+mul-lost-by : tie.Need-mul-lost-by Inv-loop μ-loop
+mul-lost-by c = search needs
+
+element-copy-out-lost-by : tie.Need-element-copy-out-lost-by Inv-loop μ-loop
+element-copy-out-lost-by c = search needs
 
 add-lost-by : tie.Need-add-lost-by Inv-loop μ-loop
 add-lost-by c = search needs
@@ -46,7 +49,7 @@ loop-again : tie.Need-loop-again Inv-loop μ-loop
 loop-again c =
     let b = c .before .before .before .before in
     let i : _ = b .before .loop .inv in
-    (search needs, i .1, hear-more _ _ _ _ _ (b .before .loop .i) (search needs) _ (i .2) _ (c .before .before .lane-at .ensures) _ (c .before .asks .ensures) _ (c .lost-by .ensures))
+    (search needs, i .1, hear-more _ _ _ _ _ (b .before .loop .i) (search needs) _ (i .2) _ (c .before .before .asks .ensures) _ (c .lost-by .ensures))
 
 returns : tie.Need-returns Inv-loop μ-loop
 returns c = let i = c .before .loop .inv in hear-all _ _ _ _ _ (c .before .loop .i) (i .1) (c .loop-test .left) (i .0) _ (i .2)
@@ -58,8 +61,9 @@ hear-spec =
     Inv-loop
     μ-loop
     loop-holds
-    lane-at-requires
     asks-requires
+    mul-lost-by
+    element-copy-out-lost-by
     add-lost-by
     lost-by-requires
     mul-lost

@@ -1,6 +1,6 @@
 -- `rounds::round_on` meets its contract: the round is played, or turned away.
 use Rattle.rounds.specs.RoundOutcomes.{may-play, plays, turns-away}
-use Rattle.rows.proofs.Whole.{full}
+use Rattle.rounds.proofs.Whole.{full}
 use borrow.Author.Needs.{needs}
 use Rattle.rounds.proofs.playing.round_on.Statement.{statement}
 use Rattle.rounds.proofs.playing.round_on.Tie as tie

@@ -1,0 +1,114 @@
+"""Every call of the library, from Python: reads a recording, writes a message, plays a contest of three stations and prints
+the desk's text. examples/expected.txt is what it prints.
+
+    python3 examples/python/example.py target/library/libj1850.so examples/truck.txt
+"""
+import sys
+
+import j1850
+
+
+def spaced(data):
+    return "".join(f" {byte:02X}" for byte in data)
+
+
+def words_of(words):
+    return "".join(f" {word}" for word in words)
+
+
+def told(answer, main, response):
+    """One answer of reading."""
+    if answer.number == 0:
+        kind = {j1850.WITHOUT: "", j1850.PLAIN: ", plain response", j1850.CHECKED: ", checked response"}[answer.kind]
+        return f"  at {answer.opening}: frame{spaced(main)}{kind}{spaced(response)}"
+    if answer.number == 1:
+        return f"  from {answer.next}: quiet"
+    if answer.number == 2:
+        return f"  at {answer.opening}: unfinished"
+    return f"  at {answer.next}: fault {answer.number}"
+
+
+def small_calls(line):
+    message = bytes.fromhex("686AF1010C")
+    print(f"The check byte of{spaced(message)} is {line.check_byte(message):02X}")
+    print("An active interval of 200 microseconds is", "a SOF" if line.symbol(True, 200) == j1850.SOF else "no SOF")
+    good = line.good_clock(j1850.Clock(80, 128, 200))
+    print("A short bit of 80 microseconds is", "good" if good else "outside the sending windows")
+    intervals = line.intervals(j1850.Gate(0, 6.25, 1.5), [0, 7, 3, 3, 1])
+    print(f"The samples 0 7 3 3 1 at the usual gate are the intervals{words_of(intervals)}")
+
+
+def reading(line, text):
+    widths = [int(row[3:]) for row in text.decode().splitlines() if row.startswith("iv\t")]
+    print(f"The recording has {len(widths)} intervals")
+    position = 0
+    while True:
+        answer, main, response = line.read(widths, position)
+        print(told(answer, main, response))
+        if answer.number in (1, 2):
+            return
+        position = answer.next
+
+
+def writing(line):
+    words = line.write(j1850.nominal(), bytes.fromhex("08FF10"), j1850.PLAIN, bytes.fromhex("28"))
+    print(f"A message with a plain response takes {len(words)} words:\n {words_of(words)}")
+    print(told(*line.read(words, 0)))
+
+
+def loss(line, message, bit):
+    """Why a station lost at a bit, counted from 1 behind the SOF: its own bit there, or that it has none."""
+    sent = message + bytes([line.check_byte(message)])
+    if bit > 8 * len(sent):
+        return "it had sent its check byte, and the line went on"
+    own = sent[(bit - 1) // 8] >> (7 - (bit - 1) % 8) & 1
+    return f"it sent a {own} where the line had a {1 - own}"
+
+
+def one_round(line, number, senders, row):
+    try:
+        answer, words = line.round(row)
+    except j1850.Refused as refused:
+        print(f"Round {number}: refused with {refused.number}, nobody waits")
+        return
+    print(f"Round {number}: {answer.words} words, {answer.line_time} microseconds")
+    for (name, message), verdict in zip(senders, answer.verdicts):
+        if verdict.fared == j1850.THROUGH:
+            print(f"  {name} got the line")
+        if verdict.fared == j1850.LOST:
+            print(f"  {name} lost at bit {verdict.bit}: {loss(line, message, verdict.bit)}")
+    print(told(*line.read(words, 0)))
+
+
+def contest(line):
+    # the dash's message begins with all the bits of the brakes' frame, and goes on
+    senders = [("engine", bytes.fromhex("486B10")), ("brakes", bytes.fromhex("08FF")), ("dash", bytes.fromhex("08FF2010"))]
+    row = j1850.row_of([j1850.nominal()] * 3)
+    for place, (_, message) in enumerate(senders):
+        line.load(row, place, message)
+    line.set_clock(row, 1, j1850.Clock(49, 112, 182))
+    one_round(line, 1, senders, row)
+    one_round(line, 2, senders, row)
+    line.withdraw(row, 0)
+    print("The engine's message is withdrawn")
+    one_round(line, 3, senders, row)
+
+
+def desk(line, data):
+    answer, text = line.desk(data)
+    print(f"The desk's text, number {answer.number}:\n{text.decode()}", end="")
+    answer, text = line.desk(data[:-1])
+    print(f"Without its last newline, number {answer.number} at line {answer.line}:\n{text.decode()}", end="")
+
+
+def main():
+    line = j1850.Library(sys.argv[1])
+    data = open(sys.argv[2], "rb").read()
+    small_calls(line)
+    reading(line, data)
+    writing(line)
+    contest(line)
+    desk(line, data)
+
+
+main()

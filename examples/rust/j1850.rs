@@ -1,0 +1,271 @@
+//! The library's calls for Rust, safe: slices go in and out as slices, and a refusal is an `Err` with document 01's number.
+//! include/j1850.h says what each call takes and answers. Copy this file into a crate and link libj1850.a:
+//!
+//!   rustc -L target/library -l static=j1850 main.rs
+
+/// A channel's gate in volts.
+#[repr(C)]
+#[derive(Clone, Copy)]
+pub struct Gate {
+    pub offset: f32,
+    pub active: f32,
+    pub passive: f32,
+}
+
+/// The widths that a controller sends with, in microseconds.
+#[repr(C)]
+#[derive(Clone, Copy)]
+pub struct Clock {
+    pub short_bit: u32,
+    pub long_bit: u32,
+    pub sof: u32,
+}
+
+pub const NOMINAL: Clock = Clock { short_bit: 64, long_bit: 128, sof: 200 };
+
+/// A station of a row: its clock and its stored message, the first `length` of its bytes.
+#[repr(C)]
+#[derive(Clone, Copy)]
+pub struct Station {
+    pub clock: Clock,
+    pub bytes: [u8; 11],
+    pub length: usize,
+}
+
+/// An empty station.
+pub fn station(clock: Clock) -> Station {
+    Station { clock, bytes: [0; 11], length: 0 }
+}
+
+#[derive(Clone, Copy, PartialEq)]
+pub enum Symbol {
+    Noise,
+    Bit0,
+    Bit1,
+    Eod,
+    Sof,
+    Eof,
+    Ifs,
+    Break,
+    Stuck,
+}
+
+/// The response of a frame, to be written or as it was read.
+#[derive(Clone, Copy)]
+pub enum Response<'a> {
+    Without,
+    Plain(&'a [u8]),
+    Checked(&'a [u8]),
+}
+
+/// What reading answers. The bytes of a frame stand in the lent bytes.
+pub enum Read<'a> {
+    Frame { opening: usize, next: usize, main: &'a [u8], response: Response<'a> },
+    Quiet { next: usize },
+    Unfinished { opening: usize },
+    Fault { number: u32, next: usize },
+}
+
+/// How a place fared in a round.
+#[derive(Clone, Copy)]
+pub enum Verdict {
+    Idle,
+    Through,
+    Lost { bit: usize },
+}
+
+/// A round that was played.
+pub struct Round {
+    pub words: usize,
+    pub line_time: u32,
+    pub verdicts: [Verdict; 32],
+}
+
+/// The desk's text: a report, or the refusal of an input at its first bad line.
+pub enum Desk<'a> {
+    Report { text: &'a [u8] },
+    Refused { line: usize, text: &'a [u8] },
+}
+
+/// What has to be lent to `desk`.
+pub const DESK_WORDS: usize = 16_384;
+pub const DESK_TEXT: usize = 442_463;
+
+mod library {
+    use super::{Clock, Gate, Station};
+
+    #[repr(C)]
+    pub struct Check {
+        pub number: u32,
+        pub check: u8,
+    }
+
+    #[repr(C)]
+    pub struct Class {
+        pub number: u32,
+        pub symbol: u32,
+    }
+
+    #[repr(C)]
+    pub struct Timed {
+        pub number: u32,
+        pub good: bool,
+    }
+
+    #[repr(C)]
+    pub struct Counted {
+        pub number: u32,
+        pub count: usize,
+    }
+
+    #[repr(C)]
+    pub struct Read {
+        pub number: u32,
+        pub kind: u32,
+        pub next: usize,
+        pub opening: usize,
+        pub main: usize,
+        pub response: usize,
+    }
+
+    #[repr(C)]
+    pub struct Called {
+        pub number: u32,
+    }
+
+    #[repr(C)]
+    #[derive(Clone, Copy)]
+    pub struct Verdict {
+        pub fared: u32,
+        pub bit: usize,
+    }
+
+    #[repr(C)]
+    pub struct Round {
+        pub number: u32,
+        pub line_time: u32,
+        pub words: usize,
+        pub verdicts: [Verdict; 32],
+    }
+
+    #[repr(C)]
+    pub struct Desk {
+        pub number: u32,
+        pub line: usize,
+        pub length: usize,
+    }
+
+    extern "C" {
+        pub fn j1850_check_byte(bytes: *const u8, length: usize) -> Check;
+        pub fn j1850_class(active: bool, width: u32) -> Class;
+        pub fn j1850_good_clock(clock: Clock) -> Timed;
+        pub fn j1850_intervals(gate: Gate, samples: *const f32, samples_length: usize, words: *mut u32, words_length: usize) -> Counted;
+        pub fn j1850_write(clock: Clock, main: *const u8, main_length: usize, kind: u32, response: *const u8, response_length: usize, words: *mut u32, words_length: usize) -> Counted;
+        pub fn j1850_read(intervals: *const u32, intervals_length: usize, from: usize, bytes: *mut u8, bytes_length: usize) -> Read;
+        pub fn j1850_load(row: *mut Station, row_length: usize, place: usize, message: *const u8, message_length: usize) -> Called;
+        pub fn j1850_withdraw(row: *mut Station, row_length: usize, place: usize) -> Called;
+        pub fn j1850_set_clock(row: *mut Station, row_length: usize, place: usize, clock: Clock) -> Called;
+        pub fn j1850_round(row: *mut Station, row_length: usize, words: *mut u32, words_length: usize) -> Round;
+        pub fn j1850_desk(input: *const u8, input_length: usize, words: *mut u32, words_length: usize, text: *mut u8, text_length: usize) -> Desk;
+    }
+}
+
+// Each call below hands over slices that Rust lends for the length of the call, and the library touches nothing else.
+
+/// The check byte that is sent behind these bytes.
+pub fn check_byte(bytes: &[u8]) -> u8 {
+    unsafe { library::j1850_check_byte(bytes.as_ptr(), bytes.len()) }.check
+}
+
+/// The symbol of an interval on an active or a passive line.
+pub fn class(active: bool, width: u32) -> Symbol {
+    use Symbol::*;
+    let symbols = [Noise, Bit0, Bit1, Eod, Sof, Eof, Ifs, Break, Stuck];
+    symbols[unsafe { library::j1850_class(active, width) }.symbol as usize]
+}
+
+/// Whether a clock lies in the sending windows.
+pub fn good_clock(clock: Clock) -> bool {
+    unsafe { library::j1850_good_clock(clock) }.good
+}
+
+/// The intervals of a trace, first in the lent words; their number.
+pub fn intervals(gate: Gate, samples: &[f32], words: &mut [u32]) -> Result<usize, u32> {
+    let answer = unsafe { library::j1850_intervals(gate, samples.as_ptr(), samples.len(), words.as_mut_ptr(), words.len()) };
+    done(answer.number).map(|()| answer.count)
+}
+
+/// The frame of a message, first in the lent words; the number of its words.
+pub fn write(clock: Clock, main: &[u8], response: Response, words: &mut [u32]) -> Result<usize, u32> {
+    let (kind, bytes): (u32, &[u8]) = match response {
+        Response::Without => (0, &[]),
+        Response::Plain(bytes) => (1, bytes),
+        Response::Checked(bytes) => (2, bytes),
+    };
+    let answer = unsafe { library::j1850_write(clock, main.as_ptr(), main.len(), kind, bytes.as_ptr(), bytes.len(), words.as_mut_ptr(), words.len()) };
+    done(answer.number).map(|()| answer.count)
+}
+
+/// The first frame at or after a position of a recording.
+pub fn read<'a>(intervals: &[u32], from: usize, bytes: &'a mut [u8]) -> Result<Read<'a>, u32> {
+    let answer = unsafe { library::j1850_read(intervals.as_ptr(), intervals.len(), from, bytes.as_mut_ptr(), bytes.len()) };
+    Ok(match answer.number {
+        0 => {
+            let (main, rest) = bytes.split_at(answer.main);
+            let response = match answer.kind {
+                1 => Response::Plain(&rest[..answer.response]),
+                2 => Response::Checked(&rest[..answer.response]),
+                _ => Response::Without,
+            };
+            Read::Frame { opening: answer.opening, next: answer.next, main, response }
+        }
+        1 => Read::Quiet { next: answer.next },
+        2 => Read::Unfinished { opening: answer.opening },
+        number @ 11..=20 => Read::Fault { number, next: answer.next },
+        refused => return Err(refused),
+    })
+}
+
+/// Loads a message into the station at a place.
+pub fn load(row: &mut [Station], place: usize, message: &[u8]) -> Result<(), u32> {
+    done(unsafe { library::j1850_load(row.as_mut_ptr(), row.len(), place, message.as_ptr(), message.len()) }.number)
+}
+
+/// Withdraws the message of the station at a place.
+pub fn withdraw(row: &mut [Station], place: usize) -> Result<(), u32> {
+    done(unsafe { library::j1850_withdraw(row.as_mut_ptr(), row.len(), place) }.number)
+}
+
+/// Sets the clock of the station at a place.
+pub fn set_clock(row: &mut [Station], place: usize, clock: Clock) -> Result<(), u32> {
+    done(unsafe { library::j1850_set_clock(row.as_mut_ptr(), row.len(), place, clock) }.number)
+}
+
+/// Plays a round; the line's intervals stand first in the lent words.
+pub fn round(row: &mut [Station], words: &mut [u32]) -> Result<Round, u32> {
+    let answer = unsafe { library::j1850_round(row.as_mut_ptr(), row.len(), words.as_mut_ptr(), words.len()) };
+    let verdicts = answer.verdicts.map(|v| match v.fared {
+        0 => Verdict::Idle,
+        1 => Verdict::Through,
+        _ => Verdict::Lost { bit: v.bit },
+    });
+    done(answer.number).map(|()| Round { words: answer.words, line_time: answer.line_time, verdicts })
+}
+
+/// The desk's text for an input.
+pub fn desk<'a>(input: &[u8], words: &mut [u32], text: &'a mut [u8]) -> Result<Desk<'a>, u32> {
+    let answer = unsafe { library::j1850_desk(input.as_ptr(), input.len(), words.as_mut_ptr(), words.len(), text.as_mut_ptr(), text.len()) };
+    match answer.number {
+        0 => Ok(Desk::Report { text: &text[..answer.length] }),
+        62 => Ok(Desk::Refused { line: answer.line, text: &text[..answer.length] }),
+        refused => Err(refused),
+    }
+}
+
+fn done(number: u32) -> Result<(), u32> {
+    if number == 0 {
+        Ok(())
+    } else {
+        Err(number)
+    }
+}

@@ -1,0 +1,136 @@
+"""How the desk reads, writes and fails: input in pieces, input without an end, files that cannot be read, a closed pipe."""
+import os
+import random
+import signal
+import subprocess
+import tempfile
+import threading
+
+import cases
+
+# What the desk reads of any input, and the memory, in KiB, that it has to do with however long the input is.
+ENOUGH = 229415
+MEMORY = 16384
+SECONDS = 60
+
+
+def bounded(desk):
+    """The desk as a command that has no more than so much memory."""
+    return ["sh", "-c", f'ulimit -v {MEMORY} && exec "$0" "$@"', desk]
+
+
+def in_pieces(desk, data):
+    """An input through a pipe, in pieces of 1 to 50 bytes."""
+    rng = random.Random(1)
+    with subprocess.Popen([desk], stdin=subprocess.PIPE, stdout=subprocess.PIPE) as child:
+        at = 0
+        while at < len(data):
+            step = rng.randint(1, 50)
+            child.stdin.write(data[at : at + step])
+            child.stdin.flush()
+            at += step
+        child.stdin.close()
+        return child.stdout.read()
+
+
+def without_end(desk, first, again):
+    """An input that never ends: a beginning, and then the same bytes for ever."""
+
+    def feed(pipe):
+        try:
+            pipe.write(first)
+            while True:
+                pipe.write(again * 1000)
+        except BrokenPipeError:
+            pass
+
+    child = subprocess.Popen(bounded(desk), stdin=subprocess.PIPE, stdout=subprocess.PIPE, stderr=subprocess.PIPE)
+    source = os.fdopen(os.dup(child.stdin.fileno()), "wb")
+    child.stdin.close()
+    child.stdin = None
+    feeder = threading.Thread(target=feed, args=(source,), daemon=True)
+    feeder.start()
+    return child.communicate(timeout=SECONDS)
+
+
+def read_of(desk, data):
+    """How many bytes of a file the desk reads as its standard input."""
+    with tempfile.TemporaryFile() as file:
+        file.write(data)
+        file.flush()
+        file.seek(0)
+        subprocess.run([desk], stdin=file, stdout=subprocess.DEVNULL, check=True)
+        return os.lseek(file.fileno(), 0, os.SEEK_CUR)
+
+
+def onto_closed_pipe(desk, ignored):
+    """What the desk says and how it ends where nobody reads what it writes; SIGPIPE is left as it is, or ignored."""
+    reader, writer = os.pipe()
+    os.close(reader)
+    child = subprocess.Popen([desk, cases.TRUCK], stdout=writer, stderr=subprocess.PIPE, restore_signals=not ignored)
+    os.close(writer)
+    said = child.communicate(timeout=SECONDS)[1]
+    return said, child.returncode
+
+
+def see(desk, second, Different):
+    """Sees that all is as it should be, and answers how many things were seen."""
+    count = 0
+
+    def expect(right, what):
+        nonlocal count
+        if not right:
+            raise Different(f"not as it should be: {what}")
+        count += 1
+
+    def run(*words, **how):
+        return subprocess.run([desk, *words], capture_output=True, timeout=SECONDS, **how)
+
+    truck = open(cases.TRUCK, "rb").read()
+    longest = cases.text((b"c" * 16, b"v" * 16), [4294967295] * cases.MOST_LINES)
+    for data in (cases.EXAMPLE, truck, truck[:-1], b"own\tc\tv\n" + b"iv\t64\n" * 9000 + b"iv\n"):
+        expect(in_pieces(desk, data) == second(data), "the text of an input that comes in small pieces")
+    for first, again in ((b"own\tc\tv\n", b"iv\t64\n"), (b"", b"y\n"), (b"", b"y"), (longest, b"\n"), (b"own\tc\tv\n", b"\0")):
+        out, said = without_end(desk, first, again)
+        expect(not said and out == second(first + again * ENOUGH), f"the text of an endless input of {again!r}")
+    for size in (0, 1, ENOUGH - 1, ENOUGH, ENOUGH + 1, 3000000):
+        expect(read_of(desk, b"y" * size) == min(size, ENOUGH), f"how much is read of {size} bytes")
+    for data in (longest, b"own\tc\tv\n" + b"iv\t64\n" * 2000000):
+        ran = subprocess.run(bounded(desk), input=data, capture_output=True)
+        expect(not ran.stderr and ran.stdout == second(data), f"the text of {len(data)} bytes in {MEMORY} KiB")
+
+    with tempfile.TemporaryDirectory() as folder:
+        for name in ("missing", "missing/file", "", "/proc/self/mem"):
+            path = os.path.join(folder, name) if name[:1] != "/" else name
+            ran = run(path)
+            expect(not ran.stdout and path.encode() in ran.stderr, f"{path!r}, which cannot be read")
+        ran = run("")
+        expect(not ran.stdout and ran.stderr, "an empty name")
+        ran = run("x" * 5000)
+        expect(not ran.stdout and ran.stderr, "a name that is too long")
+        named = os.path.join(folder, "a b\n\t-")
+        with open(named, "wb") as file:
+            file.write(truck)
+        expect(run(named).stdout == second(truck), "a file with an odd name")
+        secret = os.path.join(folder, "secret")
+        with open(secret, "wb") as file:
+            file.write(truck)
+        os.chmod(secret, 0)
+        if not os.access(secret, os.R_OK):
+            ran = run(secret)
+            expect(not ran.stdout and secret.encode() in ran.stderr, "a file that one may not read")
+    for words in ((), ("-",)):
+        ran = subprocess.run(["sh", "-c", 'exec "$0" "$@" <&-', desk, *words], capture_output=True)
+        expect(not ran.stdout and b"standard input" in ran.stderr, "a closed standard input")
+
+    said, status = onto_closed_pipe(desk, False)
+    expect(not said and status == -signal.SIGPIPE, "a closed output pipe")
+    said, status = onto_closed_pipe(desk, True)
+    expect(not said and status == 0, "a closed output pipe where SIGPIPE is ignored")
+
+    ran = run("--help", stdin=subprocess.DEVNULL)
+    told = [b"desk FILE", b"refused", b"frame", b"quiet", b"unfinished"] + [b"fault-%d " % n for n in range(11, 21)]
+    expect(not ran.stderr and all(word in ran.stdout for word in told), "--help")
+    ran = run(cases.TRUCK, cases.TRUCK)
+    expect(not ran.stdout and ran.stderr, "two arguments")
+    return count

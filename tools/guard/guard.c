@@ -1,0 +1,276 @@
+/*
+ * The guard: see guard.h, and tools/guard/run for how it is run.
+ *
+ *   guard RECORDING TIMES    the cases, so many times the random ones; fails where an answer of document 01 never occurred
+ *   guard wrong NAME         a deliberately wrong call, which has to be caught
+ */
+#define _GNU_SOURCE
+#include "guard.h"
+
+#include <signal.h>
+#include <stdio.h>
+#include <stdlib.h>
+#include <string.h>
+#include <sys/mman.h>
+#include <unistd.h>
+
+enum { PAGE = 4096, ARENA = 128 * PAGE, SLACK = 512, ARENAS = 3, SAID = 80, PATTERN = 0xA5 };
+
+/* the layout that the library was built with */
+_Static_assert(sizeof(j1850_station) == 32 && offsetof(j1850_station, bytes) == 12 && offsetof(j1850_station, length) == 24, "a station");
+_Static_assert(sizeof(j1850_verdict) == 16 && offsetof(j1850_round_answer, verdicts) == 16 && sizeof(j1850_round_answer) == 528, "a round's answer");
+
+unsigned long tally[CALLS][64];
+
+static uint8_t *arenas[ARENAS]; /* each between two pages that cannot be touched */
+
+static void fail(const char *what) {
+    fprintf(stderr, "guard: %s\n", what);
+    exit(1);
+}
+
+static void touched(int signal) {
+    (void)signal;
+    static const char text[] = "guard: a call touched memory that is not lent to it\n";
+    ssize_t written = write(2, text, sizeof text - 1);
+    _exit(written < 0 ? 4 : 3);
+}
+
+static void map_arenas(void) {
+    for (int i = 0; i < ARENAS; i++) {
+        uint8_t *at = mmap(NULL, ARENA + 2 * PAGE, PROT_NONE, MAP_PRIVATE | MAP_ANONYMOUS, -1, 0);
+        if (at == MAP_FAILED || mprotect(at + PAGE, ARENA, PROT_READ | PROT_WRITE) != 0)
+            fail("no memory for the arenas");
+        arenas[i] = at + PAGE;
+    }
+}
+
+static size_t bytes_of(slice s) { return s.count * s.size; }
+
+/* Makes the call with this memory lent, and writes down what it answers: the number, and every value. */
+static size_t say(const job *j, void *at[3], uint64_t *said) {
+    const slice *s = j->lent;
+    size_t n = 0;
+    switch (j->which) {
+    case CHECK_BYTE: {
+        j1850_check_answer r = j1850_check_byte(at[0], s[0].count);
+        said[n++] = r.number, said[n++] = r.check;
+        break;
+    }
+    case CLASS: {
+        j1850_class_answer r = j1850_class(j->active, j->number);
+        said[n++] = r.number, said[n++] = r.symbol;
+        break;
+    }
+    case GOOD_CLOCK: {
+        j1850_clock_answer r = j1850_good_clock(j->clock);
+        said[n++] = r.number, said[n++] = r.good;
+        break;
+    }
+    case INTERVALS: {
+        j1850_count_answer r = j1850_intervals(j->gate, at[0], s[0].count, at[1], s[1].count);
+        said[n++] = r.number, said[n++] = r.count;
+        break;
+    }
+    case WRITE: {
+        j1850_count_answer r = j1850_write(j->clock, at[0], s[0].count, j->number, at[1], s[1].count, at[2], s[2].count);
+        said[n++] = r.number, said[n++] = r.count;
+        break;
+    }
+    case READ: {
+        j1850_read_answer r = j1850_read(at[0], s[0].count, j->place, at[1], s[1].count);
+        said[n++] = r.number, said[n++] = r.kind, said[n++] = r.next;
+        said[n++] = r.opening, said[n++] = r.main, said[n++] = r.response;
+        break;
+    }
+    case LOAD:
+        said[n++] = j1850_load(at[0], s[0].count, j->place, at[1], s[1].count).number;
+        break;
+    case WITHDRAW:
+        said[n++] = j1850_withdraw(at[0], s[0].count, j->place).number;
+        break;
+    case SET_CLOCK:
+        said[n++] = j1850_set_clock(at[0], s[0].count, j->place, j->clock).number;
+        break;
+    case ROUND: {
+        j1850_round_answer r = j1850_round(at[0], s[0].count, at[1], s[1].count);
+        said[n++] = r.number, said[n++] = r.line_time, said[n++] = r.words;
+        for (int i = 0; i < 32; i++)
+            said[n++] = r.verdicts[i].fared, said[n++] = r.verdicts[i].bit;
+        break;
+    }
+    default: {
+        j1850_desk_answer r = j1850_desk(at[0], s[0].count, at[1], s[1].count, at[2], s[2].count);
+        said[n++] = r.number, said[n++] = r.line, said[n++] = r.length;
+    }
+    }
+    return n;
+}
+
+/* The free bytes beside a slice that lies at one end of its arena. */
+static uint8_t *beside(int i, size_t bytes, bool high) {
+    return high ? arenas[i] + ARENA - bytes - SLACK : arenas[i] + bytes;
+}
+
+static void *lend(int i, slice s, bool high) {
+    size_t bytes = bytes_of(s);
+    if (bytes + SLACK > ARENA)
+        fail("more is lent than an arena holds");
+    uint8_t *at = high ? arenas[i] + ARENA - bytes : arenas[i];
+    memset(beside(i, bytes, high), PATTERN, SLACK);
+    if (bytes != 0)
+        memcpy(at, s.data, bytes);
+    if (!s.writable && mprotect(arenas[i], ARENA, PROT_READ) != 0)
+        fail("a page does not become read-only");
+    return at;
+}
+
+/* Whether lent memory holds the same. A station has a byte of padding behind its bytes, which is no part of its value. */
+static bool same(slice s, const uint8_t *at, const uint8_t *wanted) {
+    size_t bytes = bytes_of(s);
+    if (s.size != sizeof(j1850_station))
+        return bytes == 0 || memcmp(at, wanted, bytes) == 0;
+    for (size_t k = 0; k < bytes; k++)
+        if (k % sizeof(j1850_station) != 23 && at[k] != wanted[k])
+            return false;
+    return true;
+}
+
+static void take_back(int i, slice s, bool high, const void *at, const void *wanted) {
+    size_t bytes = bytes_of(s);
+    const uint8_t *free_bytes = beside(i, bytes, high);
+    for (int k = 0; k < SLACK; k++)
+        if (free_bytes[k] != PATTERN)
+            fail("a call wrote beside what is lent to it");
+    if (!same(s, at, wanted))
+        fail("lent memory is left otherwise at another place");
+    if (!s.writable && mprotect(arenas[i], ARENA, PROT_READ | PROT_WRITE) != 0)
+        fail("a page does not become writable");
+}
+
+void trial(job wanted) {
+    void *exact[3];
+    void *at[3];
+    uint64_t first[SAID];
+    uint64_t said[SAID];
+
+    for (int i = 0; i < 3; i++) { /* memory of exactly the lent size; none for a slice of none */
+        size_t bytes = bytes_of(wanted.lent[i]);
+        exact[i] = bytes == 0 ? NULL : malloc(bytes);
+        if (bytes != 0)
+            memcpy(exact[i], wanted.lent[i].data, bytes);
+    }
+    size_t n = say(&wanted, exact, first);
+    tally[wanted.which][first[0] & 63]++;
+    for (int high = 0; high < 2; high++) {
+        for (int i = 0; i < 3; i++)
+            at[i] = lend(i, wanted.lent[i], high);
+        say(&wanted, at, said);
+        if (memcmp(first, said, n * sizeof *said) != 0)
+            fail("a call answers otherwise with memory at another place");
+        for (int i = 0; i < 3; i++)
+            take_back(i, wanted.lent[i], high, at[i], exact[i]);
+    }
+    for (int i = 0; i < 3; i++)
+        free(exact[i]);
+}
+
+/* Every number of document 01 that a call can answer, and the desk's two. */
+static const struct {
+    enum call which;
+    const char *name;
+    int numbers[16];
+} wanted_answers[] = {
+    {CHECK_BYTE, "check byte", {0, -1}},
+    {CLASS, "class", {0, -1}},
+    {GOOD_CLOCK, "good clock", {0, -1}},
+    {INTERVALS, "intervals", {0, 33, 34, 32, 35, -1}},
+    {WRITE, "write", {0, 36, 37, 32, -1}},
+    {READ, "read", {0, 1, 2, 11, 12, 13, 14, 15, 16, 17, 18, 19, 20, 31, 32, -1}},
+    {LOAD, "load", {0, 38, 39, 40, 37, 41, -1}},
+    {WITHDRAW, "withdraw", {0, 38, 39, 40, 42, -1}},
+    {SET_CLOCK, "set clock", {0, 38, 39, 40, 36, -1}},
+    {ROUND, "round", {0, 38, 39, 32, 42, -1}},
+    {DESK, "desk", {0, 61, 62, -1}},
+};
+
+static void report(void) {
+    unsigned long sum = 0;
+    for (size_t i = 0; i < sizeof wanted_answers / sizeof *wanted_answers; i++)
+        for (const int *n = wanted_answers[i].numbers; *n >= 0; n++) {
+            unsigned long times = tally[wanted_answers[i].which][*n];
+            if (times == 0) {
+                fprintf(stderr, "guard: %s never answered %d\n", wanted_answers[i].name, *n);
+                exit(1);
+            }
+            sum += times;
+        }
+    printf("guard: %lu calls, each at both ends of its memory; every answer occurred; nothing that is not lent was touched\n", sum);
+}
+
+/* The longest frame, of 101 words: 12 bytes with the check byte, the last of them a response. */
+static j1850_count_answer longest(uint32_t *words, size_t length) {
+    const j1850_clock nominal = {64, 128, 200};
+    const uint8_t message[11] = {0};
+    return j1850_write(nominal, message, 10, J1850_PLAIN, message, 1, words, length);
+}
+
+/* A deliberately wrong call, which has to be caught. */
+static int wrong(const char *name) {
+    static const uint8_t message[11];
+    static uint32_t room[101];
+    slice words = {room, 100, sizeof *room, true};
+    slice bytes = {message, 11, 1, false};
+
+    if (strcmp(name, "past-the-end") == 0) { /* 101 words are claimed, and 100 lent */
+        longest(lend(0, words, true), 101);
+    } else if (strcmp(name, "before-the-start") == 0) {
+        longest((uint32_t *)lend(0, words, false) - 1, 101);
+    } else if (strcmp(name, "read-past-the-end") == 0) {
+        j1850_check_byte(lend(0, bytes, true), 12);
+    } else if (strcmp(name, "written-input") == 0) { /* what is lent to be read is written */
+        void *input = lend(0, (slice){room, 101, sizeof *room, false}, true);
+        longest(input, 101);
+    } else if (strcmp(name, "beside") == 0) { /* the word past the lent ones can be touched, and is seen to be written */
+        void *at = lend(0, words, false);
+        longest(at, 101);
+        take_back(0, words, false, at, at);
+    } else if (strcmp(name, "sanitized-copy") == 0) { /* for the build with sanitizers: more bytes are claimed than there are */
+        uint8_t *few = calloc(5, 1);
+        j1850_station row[1] = {{.clock = {64, 128, 200}}};
+        j1850_load(row, 1, 0, few, 11);
+        free(few);
+    } else if (strcmp(name, "sanitized-read") == 0) { /* the same: a word is read past those of the answer */
+        uint32_t *exact = malloc(sizeof room);
+        j1850_count_answer r = longest(exact, 101);
+        printf("%u\n", (unsigned)exact[r.count]);
+        free(exact);
+    } else if (strcmp(name, "sanitized-shift") == 0) { /* the same: what the language does not define */
+        volatile uint32_t width = 32;
+        printf("%d\n", 1 << width);
+    }
+    fprintf(stderr, "guard: the wrong call %s is not caught\n", name);
+    return 0;
+}
+
+int main(int count, char **arguments) {
+    static uint8_t recording[65536];
+    FILE *file;
+
+    map_arenas();
+#ifndef SANITIZED
+    signal(SIGSEGV, touched);
+    signal(SIGBUS, touched);
+#else
+    (void)touched;
+#endif
+    if (count == 3 && strcmp(arguments[1], "wrong") == 0)
+        return wrong(arguments[2]);
+    if (count != 3 || (file = fopen(arguments[1], "rb")) == NULL)
+        fail("usage: guard RECORDING TIMES, or guard wrong NAME");
+    size_t length = fread(recording, 1, sizeof recording, file);
+    fclose(file);
+    all_cases((unsigned)strtoul(arguments[2], NULL, 10), recording, length);
+    report();
+    return 0;
+}
