@@ -1,12 +1,13 @@
 -- How the rules of a round decide what it comes to.
 use Prim.Native.Nat.{ℕ, _≤_}
-use mathlib.Core.Path.{_≡_, refl, sym, ap, _∙_}
+use mathlib.Core.Path.{_≡_, refl, sym, ap, ap₂, _∙_}
 use mathlib.Core.Bool.{Bool, true, false, not, _||_}
 use mathlib.Core.List.{List, map}
 use native.Mathlib.Omega.{arith}
 use lib.Dec.{eqb, ltb}
 use lib.ListN.{length, length-map}
 use borrow.Author.Tests.{eqb-true, ltb-false, not-false}
+use Rattle.laws.specs.Settled.{settled}
 use Rattle.framing.specs.Writing.{mostWords}
 use Rattle.contest.specs.declared.Station.{Station}
 use Rattle.contest.specs.declared.RoundTold.{RoundTold}
@@ -16,10 +17,12 @@ use Rattle.contest.specs.Round.{longest}
 use Rattle.contest.specs.Contest.{entryOf, sofsAsked, roundOf}
 use Rattle.contest.specs.Calls.{allSound, refuse, written}
 use Rattle.contest.specs.Promises.{toldNumber, RoundSaid, said, played, turnedAway}
+use Rattle.contest.specs.RoundSettled.{said-once}
 use Rattle.contest.specs.RowLaws.{winnerOf, faresAgainst, row-fares}
 use Rattle.rows.specs.declared.Bench.{Bench}
 use Rattle.rows.specs.declared.survey.Survey.{Survey}
 use Rattle.rows.specs.Surveys.{surveyOf}
+use Rattle.rounds.specs.declared.playing.Played.{Played}
 use Rattle.rounds.specs.Rounds.{roundNumber, numberOn, idleAll, afterVerdicts, PlayedBy}
 use Rattle.rounds.specs.Playing.{after-is}
 
@@ -71,3 +74,10 @@ module _ (b : Bench) (lent : List ℕ) (v : Survey) (e : v ≡ surveyOf (b .at))
         leaves = rw (first ∙ t);
         lends = rw (first ∙ t);
       }
+
+-- No second answer, no other bench and no other words are what a round comes to.
+pub played-settled : {b : Bench} {lent lent′ lent″ : List ℕ} {r s : Played} → PlayedBy b lent lent′ r → PlayedBy b lent lent″ s → (r ≡ s) × (lent′ ≡ lent″)
+played-settled {r} {s} p q = (
+  ap₂ (λ (x : Bench) (y : RoundAnswer). record { bench = x; answer = y }) (settled (p .leaves) (q .leaves)) (said-once (r .answer) (s .answer) (settled (p .says) (q .says))),
+  settled (p .lends) (q .lends),
+)

@@ -1,12 +1,13 @@
 -- How the rules of a call at a place decide what it comes to.
 use Prim.Native.Nat.{ℕ, _≤_, _<_}
-use mathlib.Core.Path.{_≡_, refl, sym, ap, _∙_}
+use mathlib.Core.Path.{_≡_, refl, sym, ap, ap₂, _∙_}
 use mathlib.Core.Bool.{Bool, true, false, not, _||_}
 use mathlib.Core.List.{List}
 use native.Mathlib.Omega.{arith}
 use lib.Dec.{eqb, leb, ltb}
 use lib.ListN.{length, getD}
 use borrow.Author.Tests.{eqb-true, eq-eqb, ne-eqb, leb-false, ltb-false}
+use Rattle.laws.specs.Settled.{settled}
 use Rattle.laws.specs.Tests.{neither}
 use Rattle.symbol.specs.declared.Clock.{Clock}
 use Rattle.symbol.specs.Clocks.{goodOf}
@@ -17,6 +18,7 @@ use Rattle.contest.specs.Stations.{mostStations, blank}
 use Rattle.contest.specs.Contest.{emptied}
 use Rattle.contest.specs.Calls.{allSound, badMessage, refuse, loaded, clocked}
 use Rattle.contest.specs.Promises.{calledNumber}
+use Rattle.contest.specs.RowSettled.{called-once}
 use Rattle.rows.specs.declared.Bench.{Bench}
 use Rattle.rows.specs.declared.calls.Changed.{Changed}
 use Rattle.rows.specs.Scan.{getD-any}
@@ -90,3 +92,11 @@ module _ (b : Bench) (i : ℕ) (d : Station) (h : i < length (b .at)) where
   pub clock-done : (c : Clock) → goodOf c ≡ true → (s : Station) → s ≡ clocked c (getD (b .at) i d) → (r : Changed) → r ≡ doneWith b i s → ChangedBy b (clockRules c) (clockedBench b i c) r
   unfolding clockRules
   clock-done c e s p r q = rw (e, ← there, q, p) (record { says = refl; leaves = refl })
+
+-- ## One answer
+
+-- No second answer and no other bench is what a call comes to.
+pub changed-settled : {b next : Bench} {number : ℕ} {r s : Changed} → ChangedBy b number next r → ChangedBy b number next s → r ≡ s
+changed-settled {r} {s} p q =
+    ap₂ (λ (x : Bench) (y : Called). record { bench = x; called = y }) (settled (p .leaves) (q .leaves))
+    (called-once (r .called) (s .called) (settled (p .says) (q .says)))
