@@ -1,6 +1,5 @@
 -- `rounds::fared` meets its contract.
 use borrow.Author.Tests.{eq-eqb, ne-eqb, lt-ltb, le-ltb}
-use borrow.Author.Needs.{needs}
 use Rattle.rounds.proofs.entries.fared.Statement.{statement}
 use Rattle.rounds.proofs.entries.fared.Tie as tie
 

@@ -1,7 +1,6 @@
 -- `rounds::turned_away` meets its contract.
 use mathlib.Core.Path.{refl}
 use Rattle.rounds.specs.Rounds.{idleAll}
-use borrow.Author.Needs.{needs}
 use Rattle.rounds.proofs.playing.turned_away.Statement.{statement}
 use Rattle.rounds.proofs.playing.turned_away.Tie as tie
 

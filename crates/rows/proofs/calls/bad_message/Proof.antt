@@ -1,6 +1,5 @@
 -- `rows::bad_message` meets its contract.
 use borrow.Author.Tests.{eq-eqb, ne-eqb}
-use borrow.Author.Needs.{needs}
 use Rattle.rows.proofs.calls.bad_message.Statement.{statement}
 use Rattle.rows.proofs.calls.bad_message.Tie as tie
 

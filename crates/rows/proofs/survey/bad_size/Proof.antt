@@ -1,6 +1,5 @@
 -- `rows::bad_size` meets its contract.
 use borrow.Author.Tests.{eq-eqb, ne-eqb}
-use borrow.Author.Needs.{needs}
 use Rattle.rows.proofs.survey.bad_size.Statement.{statement}
 use Rattle.rows.proofs.survey.bad_size.Tie as tie
 

@@ -1,6 +1,5 @@
 -- `rows::sof_asked` meets its contract: an empty station, and a holder.
 use borrow.Author.Tests.{eq-eqb, ne-eqb}
-use borrow.Author.Needs.{needs}
 use Rattle.rows.proofs.survey.sof_asked.Statement.{statement}
 use Rattle.rows.proofs.survey.sof_asked.Tie as tie
 
