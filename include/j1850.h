@@ -55,12 +55,12 @@ enum {
 enum { J1850_WITHOUT = 0, J1850_PLAIN = 1, J1850_CHECKED = 2 };
 
 /* A station of a row: its clock and its stored message, the first `length` of its bytes. Length 0 means empty. A row is an
-   array of 1 to 32 stations, which the caller owns; one that starts empty has good clocks and lengths of 0. The byte of
-   padding behind `bytes` means nothing, and a call on the row may change it. */
+   array of 1 to 32 stations, which the caller owns; one that starts empty has good clocks and lengths of 0. A
+   station has 24 bytes, and none of them is padding. */
 typedef struct {
     j1850_clock clock;
     uint8_t bytes[11];
-    size_t length;
+    uint8_t length;
 } j1850_station;
 
 /* How a place fared in a round: it held no message, its message went out whole, or it had to stop at a bit. */

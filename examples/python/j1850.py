@@ -32,7 +32,7 @@ class Clock(Structure):
 class Station(Structure):
     """A station of a row: its clock and its stored message, the first `length` of its bytes."""
 
-    _fields_ = [("clock", Clock), ("bytes", c_uint8 * 11), ("length", c_size_t)]
+    _fields_ = [("clock", Clock), ("bytes", c_uint8 * 11), ("length", c_uint8)]
 
 
 class CheckAnswer(Structure):

@@ -29,7 +29,7 @@ pub const NOMINAL: Clock = Clock { short_bit: 64, long_bit: 128, sof: 200 };
 pub struct Station {
     pub clock: Clock,
     pub bytes: [u8; 11],
-    pub length: usize,
+    pub length: u8,
 }
 
 /// An empty station.

@@ -15,7 +15,7 @@ struct Lane {
 
 impl Lane {
     fn new(station: &Station) -> Lane {
-        let stored = &station.bytes[..station.length];
+        let stored = &station.bytes[..station.length as usize];
         let mut frame = [0; 12];
         let mut bits = 0;
         if !stored.is_empty() {

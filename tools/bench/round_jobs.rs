@@ -58,7 +58,7 @@ fn pass(round: Plays, rows: &Rows) -> usize {
         let answer = round(row, words);
         let verdicts = answer.verdicts.iter();
         let places = verdicts.fold(0, |all, v| all * 3 % 1_000_003 + v.bit + v.fared as usize);
-        let left: usize = row.iter().map(|s| s.length).sum();
+        let left: usize = row.iter().map(|s| s.length as usize).sum();
         sum = (sum * 31 + places + left + answer.words + answer.line_time as usize) % (1 << 40);
         sum += words[answer.words - 2] as usize;
     }

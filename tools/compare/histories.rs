@@ -178,7 +178,7 @@ impl History {
             0 => self.row.lent = 0,
             1 => self.row.lent = 33 + trial.random.below(2),
             2 => self.row.lend()[place].clock = trial.random.pick(&bad_clocks()),
-            _ => self.row.lend()[place].length = trial.random.pick(&[12, 13, 4_096, usize::MAX]),
+            _ => self.row.lend()[place].length = trial.random.pick(&[12, 13, 128, u8::MAX]),
         }
         let before = self.row.clone();
         self.make(trial, call);

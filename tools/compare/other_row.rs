@@ -22,7 +22,7 @@ fn on_row<A>(row: &mut [Station], call: impl FnOnce(&mut [bench::Station]) -> A)
     let second = |s: &Station| bench::Station {
         clock: second_clock(s.clock),
         bytes: s.bytes,
-        len: s.length,
+        len: s.length as usize,
     };
     let mut theirs: Vec<bench::Station> = row.iter().map(second).collect();
     let answer = call(&mut theirs);
@@ -34,7 +34,7 @@ fn on_row<A>(row: &mut [Station], call: impl FnOnce(&mut [bench::Station]) -> A)
                 sof: after.clock.sof,
             },
             bytes: after.bytes,
-            length: after.len,
+            length: after.len as u8,
         };
     }
     answer

@@ -61,7 +61,7 @@ pub struct Read {
 pub struct Station {
     pub clock: Clock,
     pub bytes: [u8; 11],
-    pub length: usize,
+    pub length: u8,
 }
 
 #[repr(C)]

@@ -28,7 +28,7 @@ pub fn station(trial: &mut Trial, clock: Clock, message: &[u8]) -> Station {
     Station {
         clock,
         bytes,
-        length: message.len(),
+        length: message.len() as u8,
     }
 }
 
@@ -124,7 +124,7 @@ fn first_of(trial: &mut Trial, call: &'static str, rules: &[(u32, bool)]) -> u32
 
 /// Every unsoundness that a station can have: a length over 11, or a clock outside by as little as can be, or by much.
 fn unsound(sound: Station) -> Vec<Station> {
-    let lengths = [12, 13, 255, 256, usize::MAX].map(|length| Station { length, ..sound });
+    let lengths = [12, 13, 128, 254, 255].map(|length| Station { length, ..sound });
     let clocks = bad_clocks().into_iter();
     lengths
         .into_iter()

@@ -29,7 +29,7 @@ impl Row {
             let one = |_| Station {
                 clock: clock(random),
                 bytes: std::array::from_fn(|_| random.next() as u8),
-                length: random.below(12),
+                length: random.below(12) as u8,
             };
             (0..count).map(one).collect()
         };

@@ -42,7 +42,7 @@ impl Watch {
     pub fn over(row: &[Station]) -> Watch {
         let mut watch = Watch(vec![None; row.len()]);
         for (place, station) in row.iter().enumerate().filter(|(_, s)| s.length > 0) {
-            watch.put(place, &station.bytes[..station.length]);
+            watch.put(place, &station.bytes[..station.length as usize]);
         }
         let found = watch.clone();
         for waiting in watch.0.iter_mut().flatten() {

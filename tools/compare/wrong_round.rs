@@ -46,7 +46,7 @@ fn most(longest: bool, widths: impl Iterator<Item = u32>) -> u32 {
 
 fn senders(wrong: Wrong, row: &[Station]) -> Vec<Sender> {
     let one = |(place, station): (usize, &Station)| {
-        let stored = &station.bytes[..station.length];
+        let stored = &station.bytes[..station.length as usize];
         let sent = if wrong == Wrong::CheckNotSent {
             stored.to_vec()
         } else {

@@ -98,7 +98,7 @@ pub fn load(wrong: Wrong, row: &mut [Station], place: usize, message: &[u8]) -> 
         (Wrong::LoadedBackwards, 0) => station.bytes[..message.len()].reverse(),
         (Wrong::LoadedOver, 41) => {
             station.bytes[..message.len()].copy_from_slice(message);
-            station.length = message.len();
+            station.length = message.len() as u8;
             return called(Ok(()));
         }
         (Wrong::RefusedLoadStores, 41) => station.bytes[0] = !station.bytes[0],

@@ -129,7 +129,7 @@ static void rows(unsigned times) {
         }
         if (any(6) == 0 && count > 0) {
             if (any(2))
-                row[any((uint32_t)count)].length = any(2) ? 12 : (size_t)-1;
+                row[any((uint32_t)count)].length = any(2) ? 12 : 255;
             else
                 row[any((uint32_t)count)].clock = some_clock();
         }

@@ -17,7 +17,7 @@
 enum { PAGE = 4096, ARENA = 128 * PAGE, SLACK = 512, ARENAS = 3, SAID = 80, PATTERN = 0xA5 };
 
 /* the layout that the library was built with */
-_Static_assert(sizeof(j1850_station) == 32 && offsetof(j1850_station, bytes) == 12 && offsetof(j1850_station, length) == 24, "a station");
+_Static_assert(sizeof(j1850_station) == 24 && offsetof(j1850_station, bytes) == 12 && offsetof(j1850_station, length) == 23, "a station");
 _Static_assert(sizeof(j1850_verdict) == 16 && offsetof(j1850_round_answer, verdicts) == 16 && sizeof(j1850_round_answer) == 528, "a round's answer");
 
 unsigned long tally[CALLS][64];
@@ -125,15 +125,10 @@ static void *lend(int i, slice s, bool high) {
     return at;
 }
 
-/* Whether lent memory holds the same. A station has a byte of padding behind its bytes, which is no part of its value. */
+/* Whether lent memory holds the same. */
 static bool same(slice s, const uint8_t *at, const uint8_t *wanted) {
     size_t bytes = bytes_of(s);
-    if (s.size != sizeof(j1850_station))
-        return bytes == 0 || memcmp(at, wanted, bytes) == 0;
-    for (size_t k = 0; k < bytes; k++)
-        if (k % sizeof(j1850_station) != 23 && at[k] != wanted[k])
-            return false;
-    return true;
+    return bytes == 0 || memcmp(at, wanted, bytes) == 0;
 }
 
 static void take_back(int i, slice s, bool high, const void *at, const void *wanted) {

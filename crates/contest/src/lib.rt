@@ -9,7 +9,7 @@ use units::Micros;
 pub struct Station {
     pub clock: Clock,
     pub bytes: [u8; 11],
-    pub len: usize,
+    pub len: u8,
 }
 
 // How a place fared in a round: it held no message; its message went out whole; or it had to stop at a bit, counted from

@@ -135,8 +135,8 @@ module _ {M : Type 1} {𝓤 : URA M} {H : Heap 𝓤} {A : Atoms 𝓤} {K : Type 
       → (T y → Seq K W Γ (runs C Λ E b q)) → (T (not y) → Seq K W Γ (prop (post 𝓤 H q (exits n)))) → Seq K W Γ (runs C Λ E (seq (cond c skip (exit n)) b) q)
   tests t o held failed = first t $ branches t o (λ h. skips t $ record { prf = held h .prf }) (λ z. jumps t $ record { prf = failed z .prf })
 
--- where a station of 32 bytes lies in a row fits a usize
-pub scaled : (i n : ℕ) → i < n → n * 32 < 2 ^ 63 → i * 32 < 2 ^ 64
+-- where a station of 24 bytes lies in a row fits a usize
+pub scaled : (i n : ℕ) → i < n → n * 24 < 2 ^ 63 → i * 24 < 2 ^ 64
 scaled i n l r = omega (arith, l, r)
 
 -- the places of n entries from k on, for `move`

@@ -1,6 +1,6 @@
 -- Laws of the loops over the stations of a row: an array that has something of each station, and what is asked of them all.
 use Prim.Native.Nat.{ℕ, zero, suc, _+_, _*_, _-_, _≤_, _<_}
-use mathlib.Core.Path.{_≡_, sym, ap, ap₂, _∙_}
+use mathlib.Core.Path.{_≡_, refl, sym, subst, ap, ap₂, _∙_}
 use mathlib.Core.Bool.{true}
 use mathlib.Core.List.{List, [], _∷_, _++_, map, append-assoc}
 use native.Mathlib.Omega.{arith}
@@ -87,7 +87,7 @@ laid m n c e h =
     ∙ sym (append-assoc m (c ∷ []) (replicate (mostStored - length m) 0))
 
 -- its frame: the bytes, the check byte, and zeros
-pub frame-is : (s : Station) → s .len ≤ mostStored → length (s .bytes) ≡ mostStored → (m : ℕ) → m ≡ length (stored s) → (now : List ℕ)
+frame-is : (s : Station) → s .len ≤ mostStored → length (s .bytes) ≡ mostStored → (m : ℕ) → m ≡ length (stored s) → (now : List ℕ)
     → now ≡ take m (stored s) ++ drop m (replicate {A = ℕ} 12 0) → (c : ℕ) → c ≡ checkOf (stored s) → set now (s .len) c ≡ frameOf s
 unfolding frameOf
 frame-is s h w m k now e c f =
@@ -95,6 +95,18 @@ frame-is s h w m k now e c f =
     ap (λ (r : List ℕ). set r (s .len) c) (e ∙ ap₂ (λ (x : List ℕ) (y : ℕ). x ++ drop y (replicate {A = ℕ} 12 0)) (take-all m (stored s) (omega arith)) (k ∙ n))
     ∙ laid (stored s) (s .len) c n h
     ∙ ap (λ (x : ℕ). (stored s ++ (x ∷ [])) ++ replicate (mostStored - length (stored s)) 0) f
+
+-- The same with the stored length by another name.
+pub frame-at : (s : Station) → s .len ≤ mostStored → length (s .bytes) ≡ mostStored → (n : ℕ) → n ≡ s .len → (now : List ℕ)
+    → now ≡ take (length (take n (s .bytes))) (take n (s .bytes)) ++ drop (length (take n (s .bytes))) (replicate {A = ℕ} 12 0)
+    → (c : ℕ) → c ≡ checkOf (take n (s .bytes)) → set now n c ≡ frameOf s
+frame-at s h w n e =
+    subst
+    (λ (k : ℕ). (now : List ℕ)
+    → now ≡ take (length (take k (s .bytes))) (take k (s .bytes)) ++ drop (length (take k (s .bytes))) (replicate {A = ℕ} 12 0)
+    → (c : ℕ) → c ≡ checkOf (take k (s .bytes)) → set now k c ≡ frameOf s)
+    (sym e)
+    (frame-is s h w (length (stored s)) refl)
 
 -- ## The verdicts
 

@@ -24,7 +24,14 @@ fn count_of(station: Station) -> usize
     if station.len == 0 {
         return 0;
     }
-    (station.len + 1) * BITS_OF_BYTE
+    (wide(station.len) + 1) * BITS_OF_BYTE
+}
+
+// A stored length, as bytes are counted elsewhere.
+fn wide(len: u8) -> usize
+    ensures { λ r. ⌜ r ≡ len ⌝ }
+{
+    len as usize
 }
 
 // The bytes that a station sends, its check byte behind them, filled up with zeros.
@@ -32,7 +39,7 @@ fn frame_of(station: Station) -> [u8; 12]
     requires { ⌜ station .len ≤ mostStored ⌝ }
     ensures { λ r. ⌜ r ≡ frameOf station ⌝ }
 {
-    let n = station.len;
+    let n = wide(station.len);
     let stored = station.bytes;
     let mut frame: [u8; 12] = [0; 12];
     bytes::copy(&stored[..n], &mut frame);

@@ -110,8 +110,16 @@ fn loaded(station: Station, message: &[u8]) -> Station
     Station {
         clock,
         bytes: stored,
-        len: message.len(),
+        len: length_of(message.len()),
     }
+}
+
+// The number of a message's bytes, as a station keeps it.
+fn length_of(count: usize) -> u8
+    requires { ⌜ count ≤ mostStored ⌝ }
+    ensures { λ r. ⌜ r ≡ count ⌝ }
+{
+    count as u8
 }
 
 // A call that is taken: the bench with another station at a place.

@@ -11,7 +11,7 @@ use contest::Station;
 
 const MOST_STATIONS: usize = 32;
 
-const MOST_STORED: usize = 11;
+const MOST_STORED: u8 = 11;
 
 // Whether a row has no station, or more than 32.
 pub fn bad_size(count: usize) -> bool

@@ -211,7 +211,7 @@ module _ {M : Type 1} (𝓤 : URA M) (H : Heap 𝓤) (A : Atoms 𝓤) (W : Given
           (λ held. let within = in-row (ltb→lt (i .0) m held) in
           assigns ! (bin ! (load ! (from ! (stop !)) (look ! 10 refl)) (lit ! tt) (record { fits = scaled (i .0) n within (room .1) })) (from ! (stop !)) (init ! 20 refl (tt, record { fits = scaled (i .0) n within (room .1) })) $
           assigns ! (bin ! (load ! (from ! (fld ! refl (stop !))) (look-in ! 5 (sub ! 0 refl (whole !)))) (load ! (from ! (stop !)) (look ! 20 refl)) tt) (from ! (stop !)) (init ! 22 refl (tt, tt)) $
-          rewrite ! 22 (λ (p : ℕ). ‵ (fat fullShare tyPtr (lies E 10) 0 (vptr b p))) (sym (place-is 32 o (i .0))) refl $
+          rewrite ! 22 (λ (p : ℕ). ‵ (fat fullShare tyPtr (lies E 10) 0 (vptr b p))) (sym (place-is 24 o (i .0))) refl $
           elem-out ! R (Is R) (shows 𝓤 H A R) (LL.vals T.the-type T′.the-laws) (LL.tells T.the-type T′.the-laws) q′ ys (i .0) blank b o within (λ was.
           -- two more in front
           assigns ! (of-opd ! (load ! (from ! (hop ! (look ! 24 refl) (stop !))) (look-raw ! 0 refl))) (from ! (stop !)) (init ! 26 refl (LL.lawful T.the-type T′.the-laws 𝓤 H A W .typed was-at _ was .0)) $
@@ -220,7 +220,7 @@ module _ {M : Type 1} (𝓤 : URA M) (H : Heap 𝓤) (A : Atoms 𝓤) (W : Given
           assigns ! (bin ! (load ! (from ! (stop !)) (look ! 10 refl)) (lit ! tt) (record { fits = scaled (i .0) n within (room .1) })) (from ! (stop !)) (store ! 20 refl (tt, record { fits = scaled (i .0) n within (room .1) })) $
           assigns ! (addr ! (from ! (stop !))) (from ! (stop !)) (init ! 26 refl (tt, tt)) $
           assigns ! (bin ! (load ! (from ! (stop !)) (look ! 26 refl)) (load ! (from ! (stop !)) (look ! 20 refl)) tt) (from ! (stop !)) (init ! 28 refl (tt, tt)) $
-          rewrite ! 28 (λ (p : ℕ). ‵ (fat fullShare tyPtr (lies E 13) 0 (vptr d p))) (sym (place-is 32 0 (i .0))) refl $
+          rewrite ! 28 (λ (p : ℕ). ‵ (fat fullShare tyPtr (lies E 13) 0 (vptr d p))) (sym (place-is 24 0 (i .0))) refl $
           move ! (2 ∷ []) $ elem-out ! R (Is R) (shows 𝓤 H A R) (LL.vals T.the-type T′.the-laws) (LL.tells T.the-type T′.the-laws) fullShare now (i .0) blank d 0 (in-array (ltb→lt (i .0) m held)) (λ old.
           -- the array in front, and two more
           assigns ! (of-opd ! (load ! (from ! (stop !)) (look ! 14 refl))) (from ! (hop ! (look ! 30 refl) (stop !))) (store-raw ! 0 refl (LL.lawful T.the-type T′.the-laws 𝓤 H A W .typed was-at _ was .0)) $

@@ -173,7 +173,7 @@ module _ {M : Type 1} (𝓤 : URA M) (H : Heap 𝓤) (A : Atoms 𝓤) (W : Given
           (λ held. let within = ltb→lt (i .0) n held in
           assigns ! (bin ! (load ! (from ! (stop !)) (look ! 10 refl)) (lit ! tt) (record { fits = scaled (i .0) n within (room .1) })) (from ! (stop !)) (store ! 16 refl (tt, record { fits = scaled (i .0) n within (room .1) })) $
           assigns ! (bin ! (load ! (from ! (fld ! refl (stop !))) (look-in ! 6 (sub ! 0 refl (whole !)))) (load ! (from ! (stop !)) (look ! 16 refl)) tt) (from ! (stop !)) (init ! 20 refl (tt, tt)) $
-          rewrite ! 20 (λ (p : ℕ). ‵ (fat fullShare tyPtr (lies E 8) 0 (vptr b p))) (sym (place-is 32 o (i .0))) refl $
+          rewrite ! 20 (λ (p : ℕ). ‵ (fat fullShare tyPtr (lies E 8) 0 (vptr b p))) (sym (place-is 24 o (i .0))) refl $
           elem-out ! R (Is R) (shows 𝓤 H A R) (LL.vals T.the-type T′.the-laws) (LL.tells T.the-type T′.the-laws) fullShare l (i .0) blank b o (in-l within) (λ was.
           -- local i at 6 + 2 i
           assigns ! (of-opd ! (load ! (from ! (hop ! (look ! 22 refl) (stop !))) (look-raw ! 0 refl))) (from ! (stop !)) (init ! 24 refl (LL.lawful T.the-type T′.the-laws 𝓤 H A W .typed was-at _ was .0)) $
@@ -184,7 +184,7 @@ module _ {M : Type 1} (𝓤 : URA M) (H : Heap 𝓤) (A : Atoms 𝓤) (W : Given
           land ! (from ! (stop !)) (init ! 16 refl (LL.lawful T.the-type T′.the-laws 𝓤 H A W .typed new _ is .0)) $
           assigns ! (bin ! (load ! (from ! (stop !)) (look ! 12 refl)) (lit ! tt) (record { fits = scaled (i .0) n within (room .1) })) (from ! (stop !)) (store ! 18 refl (tt, record { fits = scaled (i .0) n within (room .1) })) $
           assigns ! (bin ! (load ! (from ! (fld ! refl (stop !))) (look-in ! 8 (sub ! 0 refl (whole !)))) (load ! (from ! (stop !)) (look ! 18 refl)) tt) (from ! (stop !)) (init ! 26 refl (tt, tt)) $
-          rewrite ! 26 (λ (p : ℕ). ‵ (fat fullShare tyPtr (lies E 10) 0 (vptr b p))) (sym (place-is 32 o (i .0))) refl $
+          rewrite ! 26 (λ (p : ℕ). ‵ (fat fullShare tyPtr (lies E 10) 0 (vptr b p))) (sym (place-is 24 o (i .0))) refl $
           assigns ! (of-opd ! (load ! (from ! (stop !)) (look ! 16 refl))) (from ! (hop ! (look ! 26 refl) (stop !))) (store-raw ! 0 refl (LL.lawful T.the-type T′.the-laws 𝓤 H A W .typed new _ is .0)) $
           move ! (1 ∷ []) $ drop ! $ owned ! R (Is R) (LL.makes T.the-type T′.the-plain 𝓤 H A) new _ is $ move ! (1 ∷ 0 ∷ []) $
           elem-put ! R fullShare l (i .0) new (val new ∷ []) b o (in-l within) $

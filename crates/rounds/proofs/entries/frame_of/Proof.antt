@@ -1,32 +1,33 @@
 -- `rounds::frame_of` meets its contract: the bytes are copied in front, the check byte stands behind them.
-use Rattle.rounds.proofs.Whole.{whole}
-use mathlib.Core.Path.{refl, sym}
+use mathlib.Core.Path.{sym}
 use native.Mathlib.Omega.{arith}
-use lib.ListN.{length}
 use lib.Seq.{length-take-le}
-use Rattle.contest.specs.Stations.{stored}
-use Rattle.rounds.specs.EntryLaws.{frame-is}
+use Rattle.rounds.proofs.Whole.{whole}
+use Rattle.rounds.specs.EntryLaws.{frame-at}
 use borrow.Author.Needs.{needs}
 use Rattle.rounds.proofs.entries.frame_of.Statement.{statement}
 use Rattle.rounds.proofs.entries.frame_of.Tie as tie
 
+wide-requires : tie.Need-wide-requires
+wide-requires c κs = search needs
+
 array-share-prefix-stored : tie.Need-array-share-prefix-stored
-array-share-prefix-stored c = let a = c .before in omega (arith, a .pre, whole (a .args .station) (a .good .0))
+array-share-prefix-stored c = let a = c .before .before in omega (arith, a .pre, whole (a .args .station) (a .good .0), c .before .wide .ensures)
 
 slice-aggregate-copy : tie.Need-slice-aggregate-copy
-slice-aggregate-copy c = let a = c .before .before in sym (length-take-le (a .args .station .len) (a .args .station .bytes) (omega (arith, a .pre, whole (a .args .station) (a .good .0))))
+slice-aggregate-copy c = let a = c .before .before .before in sym (length-take-le (c .before .before .wide .result) (a .args .station .bytes) (omega (arith, a .pre, whole (a .args .station) (a .good .0), c .before .before .wide .ensures)))
 
 slice-aggregate-copy-2 : tie.Need-slice-aggregate-copy-2
 slice-aggregate-copy-2 c = search needs
 
 copy-requires : tie.Need-copy-requires
-copy-requires c κs = let a = c .before .before .before in omega (arith, a .pre, length-take-le (a .args .station .len) (a .args .station .bytes) (omega (arith, a .pre, whole (a .args .station) (a .good .0))))
+copy-requires c κs = let a = c .before .before .before .before in omega (arith, a .pre, c .before .before .before .wide .ensures, length-take-le (c .before .before .before .wide .result) (a .args .station .bytes) (omega (arith, a .pre, whole (a .args .station) (a .good .0), c .before .before .before .wide .ensures)))
 
 array-share-prefix-stored-2 : tie.Need-array-share-prefix-stored-2
-array-share-prefix-stored-2 c = let a = c .before .before .before .before .before in omega (arith, a .pre, whole (a .args .station) (a .good .0))
+array-share-prefix-stored-2 c = let a = c .before .before .before .before .before .before in omega (arith, a .pre, whole (a .args .station) (a .good .0), c .before .before .before .before .before .wide .ensures)
 
 slice-aggregate-check-byte : tie.Need-slice-aggregate-check-byte
-slice-aggregate-check-byte c = let a = c .before .before .before .before .before .before in sym (length-take-le (a .args .station .len) (a .args .station .bytes) (omega (arith, a .pre, whole (a .args .station) (a .good .0))))
+slice-aggregate-check-byte c = let a = c .before .before .before .before .before .before .before in sym (length-take-le (c .before .before .before .before .before .before .wide .result) (a .args .station .bytes) (omega (arith, a .pre, whole (a .args .station) (a .good .0), c .before .before .before .before .before .before .wide .ensures)))
 
 check-byte-requires : tie.Need-check-byte-requires
 check-byte-requires c κs = search needs
@@ -36,13 +37,14 @@ array-write-frame c = search needs
 
 returns : tie.Need-returns
 returns c =
-    let a = c .before .before .before .before .before .before .before in
-    frame-is (a .args .station) (a .pre) (whole (a .args .station) (a .good .0)) (length (stored (a .args .station))) refl _ (c .before .before .before .copy .ensures .1) _ (c .check-byte .ensures)
+    let a = c .before .before .before .before .before .before .before .before in
+    frame-at (a .args .station) (a .pre) (whole (a .args .station) (a .good .0)) (c .before .before .before .before .before .before .before .wide .result) (c .before .before .before .before .before .before .before .wide .ensures) _ (c .before .before .before .copy .ensures .1) _ (c .check-byte .ensures)
 
 pub frame-of-spec : {M : Type 1} → statement M
 frame-of-spec =
     tie.close
     (tie.spec
+    wide-requires
     array-share-prefix-stored
     slice-aggregate-copy
     slice-aggregate-copy-2
