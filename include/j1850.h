@@ -3,8 +3,8 @@
  * the line, and the text of the support desk.
  *
  * Every answer's first field, number, is document 01's number: 0 where the call was done, the number of what reading
- * found, or the number of a refusal (31 to 42; the desk's own are 61 and 62). A refusal changes no lent memory, and its
- * other fields are 0; 62 alone has a text and a line.
+ * found, or the number of a refusal (31 to 42, and the desk's own 61). A refusal changes no lent memory, and its other
+ * fields are 0. 62, the desk's own too, is its answer to a bad input: a text that tells the line.
  *
  * A slice is a pointer and then a length in elements; where the length is 0 the pointer may be NULL. Lent memory must not
  * overlap the other arguments. Beyond memory that is there, no call asks anything of its caller: any value has an answer.

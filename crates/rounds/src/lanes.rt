@@ -15,7 +15,7 @@ ghost use Rattle.rounds.specs.Lanes.{lanesOf, laneAt, bitOf, widthFor, a
 use symbol::Symbol;
 use units::Micros;
 
-// The places that a row can have, and the most bits of a message, with those of its check byte.
+// The places that a row can have, and the bits of a byte.
 const MOST_STATIONS: usize = 32;
 
 const BITS_OF_BYTE: usize = 8;
