@@ -1,7 +1,7 @@
 -- With what width a symbol is sent: document 01, "Writing and the bench", over the bit levels of SAE J1850.
 use Prim.Native.Nat.{ℕ}
 use mathlib.Core.Path.{_≡_}
-use mathlib.Core.Bool.{Bool, true, false}
+use mathlib.Core.Bool.{Bool, true, false, not}
 use Rattle.units.specs.declared.Micros.{Micros}
 use Rattle.symbol.specs.declared.Symbol.{Symbol}
 use Rattle.symbol.specs.declared.Symbol.the-variants.{Noise, Bit0, Bit1, Eod, Sof, Eof, Ifs, Break, Stuck}
@@ -21,26 +21,22 @@ bitWidth c true true = c .short
 abbrev pub endWidth : Micros
 endWidth = record { 0 = 300 }
 
+-- what is sent for a symbol that one level alone has: its width there, and nothing at the other level
+abbrev pub onlyWhere : Bool → Micros → Sent
+onlyWhere true w = For w
+onlyWhere false w = Never
+
 -- What a clock sends for a symbol at a level. "EOD uses the SOF width"; the only end sent is an IFS.
 abbrev pub sentOf : Clock → Bool → Symbol → Sent
-sentOf c false Bit0 = For (bitWidth c false false)
-sentOf c false Bit1 = For (bitWidth c false true)
-sentOf c false Eod = For (c .sof)
-sentOf c false Ifs = For endWidth
-sentOf c false Noise = Never
-sentOf c false Sof = Never
-sentOf c false Eof = Never
-sentOf c false Break = Never
-sentOf c false Stuck = Never
-sentOf c true Bit0 = For (bitWidth c true false)
-sentOf c true Bit1 = For (bitWidth c true true)
-sentOf c true Sof = For (c .sof)
-sentOf c true Noise = Never
-sentOf c true Eod = Never
-sentOf c true Eof = Never
-sentOf c true Ifs = Never
-sentOf c true Break = Never
-sentOf c true Stuck = Never
+sentOf c active Bit0 = For (bitWidth c active false)
+sentOf c active Bit1 = For (bitWidth c active true)
+sentOf c active Sof = onlyWhere active (c .sof)
+sentOf c active Eod = onlyWhere (not active) (c .sof)
+sentOf c active Ifs = onlyWhere (not active) endWidth
+sentOf c active Noise = Never
+sentOf c active Eof = Never
+sentOf c active Break = Never
+sentOf c active Stuck = Never
 
 -- the widths that some good clock sends for a symbol at a level; ⊥ where none is sent
 abbrev pub SendingWindow : Bool → Symbol → ℕ → Type 0

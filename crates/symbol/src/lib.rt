@@ -4,7 +4,7 @@ ghost use mathlib.Core.Path.{_≡_};
 ghost use mathlib.Core.Bool.{true, false};
 ghost use Rattle.symbol.specs.Classes.{classOf, endOf};
 ghost use Rattle.symbol.specs.Clocks.{withinOf, goodOf, nominalClock};
-ghost use Rattle.symbol.specs.Sending.{bitWidth, sentOf};
+ghost use Rattle.symbol.specs.Sending.{bitWidth, onlyWhere, sentOf};
 use units::Micros;
 
 // The kinds of interval that document 01's table of widths tells apart.
@@ -195,46 +195,31 @@ pub fn bit_width(clock: Clock, active: bool, one: bool) -> Micros
     short
 }
 
-// The width that a symbol is sent with at a level.
+// What is sent for a symbol that one level alone has.
+fn only_where(has: bool, width: Micros) -> Sent
+    ensures { λ r. ⌜ r ≡ onlyWhere has width ⌝ }
+{
+    if has {
+        return Sent::For(width);
+    }
+    Sent::Never
+}
+
+// The width that a symbol is sent with at a level: a bit at either, the SOF at the active one, the EOD and the opening
+// and closing end at the passive one.
 pub fn width_sent(clock: Clock, active: bool, symbol: Symbol) -> Sent
     ensures { λ r. ⌜ r ≡ sentOf clock active symbol ⌝ }
 {
-    if active {
-        return sent_active(clock, symbol);
-    }
-    sent_passive(clock, symbol)
-}
-
-// The same where the line is active: a bit or the SOF.
-fn sent_active(clock: Clock, symbol: Symbol) -> Sent
-    ensures { λ r. ⌜ r ≡ sentOf clock true symbol ⌝ }
-{
     let sof = clock.sof;
-    match symbol {
-        Symbol::Bit0 => Sent::For(bit_width(clock, true, false)),
-        Symbol::Bit1 => Sent::For(bit_width(clock, true, true)),
-        Symbol::Sof => Sent::For(sof),
-        Symbol::Noise => Sent::Never,
-        Symbol::Eod => Sent::Never,
-        Symbol::Eof => Sent::Never,
-        Symbol::Ifs => Sent::Never,
-        Symbol::Break => Sent::Never,
-        Symbol::Stuck => Sent::Never,
-    }
-}
-
-// The same where the line is passive: a bit, the EOD, or the opening and closing end.
-fn sent_passive(clock: Clock, symbol: Symbol) -> Sent
-    ensures { λ r. ⌜ r ≡ sentOf clock false symbol ⌝ }
-{
     let eod = clock.sof;
+    let end = Micros(END_SENT);
     match symbol {
-        Symbol::Bit0 => Sent::For(bit_width(clock, false, false)),
-        Symbol::Bit1 => Sent::For(bit_width(clock, false, true)),
-        Symbol::Eod => Sent::For(eod),
-        Symbol::Ifs => Sent::For(Micros(END_SENT)),
+        Symbol::Bit0 => Sent::For(bit_width(clock, active, false)),
+        Symbol::Bit1 => Sent::For(bit_width(clock, active, true)),
+        Symbol::Sof => only_where(active, sof),
+        Symbol::Eod => only_where(!active, eod),
+        Symbol::Ifs => only_where(!active, end),
         Symbol::Noise => Sent::Never,
-        Symbol::Sof => Sent::Never,
         Symbol::Eof => Sent::Never,
         Symbol::Break => Sent::Never,
         Symbol::Stuck => Sent::Never,
