@@ -87,7 +87,7 @@ pub extern "C" fn j1850_write(
     if kind > CHECKED {
         return answers::no_such_kind(clock);
     }
-    answers::written(frame::write(clock, main, answers::kind_of(kind), response, words))
+    answers::written(writer::write(clock, main, answers::kind_of(kind), response, words))
 }
 
 // Reads the first frame from a position of a recording on; its bytes go into lent bytes, at least 12.
@@ -96,7 +96,7 @@ pub extern "C" fn j1850_read(intervals: &[u32], from: usize, bytes: &mut [u8]) -
     ensures { λ r. ⌜ r ≡ readAs (tells (reading (now (intervals .entry)) from (length (now (bytes .entry))))) ⌝ }
     ensures { λ _. ⌜ now (bytes .exit) ≡ lentAfter (reading (now (intervals .entry)) from (length (now (bytes .entry)))) (now (bytes .entry)) ⌝ }
 {
-    answers::read_as(frame::read(intervals, Place(from), bytes))
+    answers::read_as(reader::read(intervals, Place(from), bytes))
 }
 
 // The desk's whole text for an input, into lent bytes; the input's widths go into lent words.

@@ -120,7 +120,7 @@ fn put_answer(
     ensures { λ r. ⌜ Stepped (now (customer .entry)) (now (vehicle .entry)) (now (widths .entry)) from at (now (lent .entry)) (now (lent .exit)) r ⌝ }
 {
     let mut s = [0u8; MOST_BYTES];
-    let reading = frame::read(widths, Place(from), &mut s);
+    let reading = reader::read(widths, Place(from), &mut s);
     let end = put_row(customer, vehicle, reading, &s, lent, at);
     let next = behind(reading);
     Step { end, next }

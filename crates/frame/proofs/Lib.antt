@@ -1,4 +1,0 @@
-mod Searching
-mod Answers
-mod Words
-mod Writes
