@@ -6,3 +6,6 @@ pub mod Does
 pub mod BitDoes
 pub mod CloseDoes
 pub mod StepDoes
+pub mod Parts
+pub mod PartLaws
+pub mod Following

@@ -1,7 +1,10 @@
 // The frame machine. It is told the symbols behind an opening, one after the other, and says of each whether the frame
 // goes on, has one byte more, is closed, or is at fault. It sees no widths and keeps no bytes: whoever drives it does.
+mod parts;
 mod shut;
 
+pub use parts::Parts;
+pub use parts::parts_of;
 ghost use mathlib.Core.Path.{_≡_};
 ghost use Prim.Native.Nat.{_<_};
 ghost use Rattle.framing.specs.Bits.{value};

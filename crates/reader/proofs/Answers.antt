@@ -18,22 +18,12 @@ use Rattle.framing.specs.Answers.{faultNumber, ReadPromise}
 use Rattle.machine.specs.declared.Machine.{Machine}
 use Rattle.machine.specs.Holding.{holding}
 use Rattle.machine.specs.HoldingLaws.{count-of}
-use Rattle.reader.specs.Following.{Before, some-fault}
-use Rattle.reader.specs.Answering.{placed, frameOf, framedOf, laid, Meets}
+use Rattle.machine.specs.Parts.{partsOf}
+use Rattle.machine.specs.PartLaws.{parts-held}
+use Rattle.machine.specs.Following.{Before, some-fault}
+use Rattle.reader.specs.Answering.{placed, frameOf, laid, Meets}
 
--- ## The frame that is closed
-
-past : (a b : List ℕ) → length (a ++ b) - length a ≡ length b
-past a b = rw (length-append a b) (omega arith)
-
--- what the machine holds at the closing end tells both lengths and the response
-framed-of : (st : Standing) (o k : ℕ) → framedOf (holding st) o k ≡ frameOf (length (mainBytes st)) (length (responseBytes st)) (facts st .answered) o k
-unfolding holding bytes
-framed-of atSof o k = refl
-framed-of (inMain m) o k = rw (append-nil (bytes m))
-framed-of (atNormalization m) o k = rw (append-nil (bytes m))
-framed-of (inResponse plain m r) o k = rw (past (bytes m) (bytes r))
-framed-of (inResponse checked m r) o k = rw (past (bytes m) (bytes r))
+-- ## The decision
 
 -- Before the decision the lent bytes are as they were at entry; at the closing end the bytes kept are laid into them.
 module _ (ws : List ℕ) (o : ℕ) (entry lent : List ℕ) (as-lent : lent ≡ entry) where
@@ -45,9 +35,9 @@ module _ (ws : List ℕ) (o : ℕ) (entry lent : List ℕ) (as-lent : lent ≡ e
   faulty-meets k f e g = rw (as-lent, e, g, some-fault f) (record { tells-it = refl; lends-it = refl })
 
   pub closed-meets : (k : ℕ) (m : Machine) (kept exit : List ℕ) (r : Reading) → firstIn (decides ws o) (o + 1) (length ws) ≡ at k
-      → faultAt ws o k ≡ 0 → Before ws o k m kept → exit ≡ laid (m .count) kept lent → r ≡ framedOf m o k → Meets (decided ws o) entry exit r
+      → faultAt ws o k ≡ 0 → Before ws o k m kept → exit ≡ laid (m .count) kept lent → r ≡ frameOf (partsOf m) o k → Meets (decided ws o) entry exit r
   closed-meets k m kept exit r e g v x y =
-      rw (y, x, as-lent, e, g, v .holds, framed-of (stands ws o k) o k, count-of (stands ws o k), v .keeps .first)
+      rw (y, x, as-lent, e, g, v .holds, parts-held (stands ws o k), count-of (stands ws o k), v .keeps .first)
       (record { tells-it = refl; lends-it = refl })
 
 -- ## The kept bytes and the lent ones

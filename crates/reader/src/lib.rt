@@ -8,14 +8,12 @@ ghost use Rattle.framing.specs.Faults.{mostBytes};
 ghost use Rattle.framing.specs.Line.{at, opening as openingOf};
 ghost use Rattle.framing.specs.Reading.{decided, readBy};
 ghost use Rattle.framing.specs.Answers.{ReadPromise};
-ghost use Rattle.reader.specs.Answering.{foundBy, frameOf, framedOf, laid, Meets};
-use framing::Lengths;
+ghost use Rattle.machine.specs.Parts.{partsOf};
+ghost use Rattle.reader.specs.Answering.{foundBy, frameOf, laid, Meets};
 use framing::Reading;
-use framing::Response;
 use machine::Event;
 use machine::MOST_BYTES;
 use machine::Machine;
-use machine::Phase;
 use units::Micros;
 use units::Place;
 
@@ -43,30 +41,16 @@ fn opening(intervals: &[u32], from: usize) -> Found
     Found::Nowhere
 }
 
-// The answer for a frame that is closed: how many bytes each part has, and what response it is.
+// The answer for a frame that is closed: its parts, where it opens, and its closing end, from which reading goes on.
 fn framed(machine: Machine, opening: usize, closing: usize) -> Reading
-    requires { ⌜ machine .began ≤ machine .count ⌝ }
-    ensures { λ r. ⌜ r ≡ framedOf machine opening closing ⌝ }
+    ensures { λ r. ⌜ r ≡ frameOf (partsOf machine) opening closing ⌝ }
 {
-    let phase = machine.phase;
-    let count = machine.count;
-    let began = machine.began;
-    match phase {
-        Phase::Sof => whole(count, 0, Response::Without, opening, closing),
-        Phase::Normalization => whole(count, 0, Response::Without, opening, closing),
-        Phase::Main => whole(count, 0, Response::Without, opening, closing),
-        Phase::Plain => whole(began, count - began, Response::Plain, opening, closing),
-        Phase::Checked => whole(began, count - began, Response::Checked, opening, closing),
-    }
-}
-
-// A frame: its lengths, its response, where it opens, and its closing end, from which reading goes on.
-fn whole(main: usize, response: usize, kind: Response, opening: usize, closing: usize) -> Reading
-    ensures { λ r. ⌜ r ≡ frameOf main response kind opening closing ⌝ }
-{
+    let parts = machine::parts_of(machine);
+    let lengths = parts.lengths;
+    let response = parts.response;
     Reading::Frame {
-        lengths: Lengths { main, response },
-        response: kind,
+        lengths,
+        response,
         opening: Place(opening),
         next: Place(closing),
     }

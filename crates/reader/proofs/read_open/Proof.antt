@@ -7,7 +7,7 @@ use native.Mathlib.Omega.{arith}
 use lib.ListN.{length}
 use Rattle.framing.specs.Line.{firstIn, symbolAt}
 use Rattle.framing.specs.Reading.{decides}
-use Rattle.reader.specs.Following.{Before, at-first, held-few, held-began, says-by}
+use Rattle.machine.specs.Following.{Before, at-first, held-few, held-began, says-by}
 use Rattle.reader.proofs.Searching.{decides-here, decides-none}
 use Rattle.reader.proofs.Answers.{unfinished-meets, faulty-meets, closed-meets}
 use borrow.Author.Needs.{needs}
@@ -59,8 +59,7 @@ unfolding symbolAt
 lay-requires c κs = let v = says-by _ _ _ _ _ (c .before .before .before .before .before .before .before .before .loop .inv .2) _ _ _ (c .before .before .before .before .before .class .ensures) (c .before .before .before .before .step .ensures) (c .before .enum-told2 .given .1) in (held-few _ _ _ _ _ (v .1 .1), rw (c .before .before .before .before .before .before .before .before .loop .inv .1) (c .before .before .before .before .before .before .before .before .before .before .before .before .pre .1))
 
 framed-requires : tie.Need-framed-requires Inv-loop μ-loop
-unfolding symbolAt
-framed-requires c κs = let v = says-by _ _ _ _ _ (c .before .before .before .before .before .before .before .before .before .before .before .loop .inv .2) _ _ _ (c .before .before .before .before .before .before .before .before .class .ensures) (c .before .before .before .before .before .before .before .step .ensures) (c .before .before .before .before .enum-told2 .given .1) in held-began _ _ _ _ _ (v .1 .1)
+framed-requires c κs = search needs
 
 same-length : tie.Need-same-length Inv-loop μ-loop
 same-length c = omega (arith, ap length (c .before .before .before .before .before .before .before .before .before .before .before .before .loop .inv .1))
