@@ -8,3 +8,6 @@ pub struct Place(pub usize);
 // other languages hand clocks over.
 #[repr(C)]
 pub struct Micros(pub u32);
+
+// A place in a recording that is read as it comes, counted in 64 bits.
+pub struct LongPlace(pub u64);

@@ -1,0 +1,166 @@
+-- One interval more for a live reader, as the code takes it: document 02, request 1. What it has to do with reading the
+-- whole recording is shown in Whole.antt.
+use Prim.Native.Nat.{ℕ, _+_, _-_, _%_}
+use mathlib.Core.Bool.{Bool, true, false, cond, not}
+use mathlib.Core.List.{List, _++_}
+use lib.Dec.{eqb, leb, ltb}
+use lib.ListN.{length, take, drop, set, replicate}
+use Rattle.units.specs.declared.LongPlace.{LongPlace}
+use Rattle.symbol.specs.Classes.{classOf, endOf}
+use Rattle.framing.specs.declared.Fault.{Fault}
+use Rattle.framing.specs.Line.{activeAt}
+use Rattle.framing.specs.Faults.{mostBytes}
+use Rattle.machine.specs.declared.Phase.{Phase}
+use Rattle.machine.specs.declared.Phase.the-variants.{Sof, Main, Normalization, Plain, Checked}
+use Rattle.machine.specs.declared.Machine.{Machine}
+use Rattle.machine.specs.declared.Event.{Event}
+use Rattle.machine.specs.declared.Event.the-variants.{Going, Byte, Closed, Faulty}
+use Rattle.machine.specs.declared.Stepped.{Stepped}
+use Rattle.machine.specs.Steps.{fresh, stepOf}
+use Rattle.machine.specs.declared.parts.Parts.{Parts}
+use Rattle.machine.specs.Parts.{partsOf}
+use Rattle.live.specs.declared.Places.{Places}
+use Rattle.live.specs.declared.Inside.{Inside}
+use Rattle.live.specs.declared.Live.{Live}
+use Rattle.live.specs.declared.Heard.{Heard}
+use Rattle.live.specs.declared.Heard.the-variants.{Nothing, Frame, Faulty as FaultyHeard, PastPlaces, FewLentBytes}
+use Rattle.live.specs.declared.Fed.{Fed}
+use Rattle.live.specs.declared.Asked.{Asked}
+use Rattle.live.specs.declared.Asked.the-variants.{Quiet, Unfinished}
+
+-- ## The reader
+
+-- "Places are counted in 64 bits": the last of them
+abbrev pub lastPlace : ℕ
+lastPlace = 18446744073709551615
+
+-- a place by its number
+abbrev pub longPlace : ℕ → LongPlace
+longPlace k = record { 0 = k }
+
+-- the number of each phase of the frame machine in a reader; 0 is a reader that has no opening yet
+abbrev pub phaseNumber : Phase → ℕ
+phaseNumber Sof = 1
+phaseNumber Main = 2
+phaseNumber Normalization = 3
+phaseNumber Plain = 4
+phaseNumber Checked = 5
+
+-- the phase that a number stands for
+abbrev pub phaseBy : ℕ → Phase
+phaseBy n = cond (eqb n 1) Sof (cond (eqb n 2) Main (cond (eqb n 3) Normalization (cond (eqb n 4) Plain Checked)))
+
+-- the lesser of two numbers
+abbrev pub least : ℕ → ℕ → ℕ
+least a b = cond (leb a b) a b
+
+-- What the frame machine holds in a reader. Whatever the reader's bytes are, it counts no more bytes than a frame has, and
+-- no part begins behind them.
+unfoldable pub heldBy : Inside → Machine
+heldBy i =
+    record {
+      phase = phaseBy (i .phase);
+      partial = i .partial;
+      register = i .register;
+      count = least (i .count) mostBytes;
+      began = least (i .began) (least (i .count) mostBytes);
+    }
+
+-- a frame that is being heard, by what the machine holds and by its bytes so far
+unfoldable pub insideOf : Machine → List ℕ → Inside
+insideOf m kept =
+    record { count = m .count; began = m .began; kept = kept; phase = phaseNumber (m .phase); partial = m .partial; register = m .register }
+
+-- no frame
+unfoldable pub outside : List ℕ → Inside
+outside kept = record { count = 0; began = 0; kept = kept; phase = 0; partial = 0; register = 0 }
+
+-- the places behind an interval, with the position from which reading goes on and the opening
+unfoldable pub behind : Places → (from opening : ℕ) → Places
+behind p from opening =
+    record {
+      next = cond (eqb (p .next) lastPlace) (p .next) (p .next + 1);
+      from = from;
+      opening = opening;
+      full = cond (eqb (p .next) lastPlace) 1 0;
+    }
+
+-- a reader that has heard nothing
+unfoldable pub started : Live
+started =
+    record { places = record { next = 0; from = 0; opening = 0; full = 0 }; inside = outside (replicate mostBytes 0) }
+
+-- ## One interval
+
+-- The reader behind an interval outside of a frame, or one that ends a frame: an end opens the next.
+unfoldable pub beginsAnew : Live → (from : ℕ) → (end : Bool) → Live
+beginsAnew v from true =
+    record { places = behind (v .places) from (v .places .next); inside = insideOf fresh (v .inside .kept) }
+beginsAnew v from false =
+    record { places = behind (v .places) from (v .places .opening); inside = outside (v .inside .kept) }
+
+-- the reader behind an interval that leaves its frame open
+unfoldable pub goesOn : Live → Machine → (kept : List ℕ) → Live
+goesOn v m kept = record { places = behind (v .places) (v .places .from) (v .places .opening); inside = insideOf m kept }
+
+-- the frame that a machine closes
+abbrev pub heardFrame : Parts → (opening closing : ℕ) → Heard
+heardFrame p opening closing = Frame (p .lengths) (p .response) (longPlace opening) (longPlace closing)
+
+-- what an event of the machine does, where it then holds m; `end` says whether the interval is an end
+abbrev pub fedBy : Event → Live → Machine → (end : Bool) → Fed
+fedBy Going v m end = record { heard = Nothing; live = goesOn v m (v .inside .kept) }
+fedBy (Byte b) v m end = record { heard = Nothing; live = goesOn v m (set (v .inside .kept) (heldBy (v .inside) .count) b) }
+fedBy Closed v m end =
+    record { heard = heardFrame (partsOf (heldBy (v .inside))) (v .places .opening) (v .places .next); live = beginsAnew v (v .places .next) end }
+fedBy (Faulty f) v m end =
+    record { heard = FaultyHeard f (longPlace (v .places .next)); live = beginsAnew v (v .places .next) end }
+
+-- what the machine of a reader does at its next interval, which has the width w
+abbrev pub stepAt : Live → ℕ → Stepped
+stepAt v w = stepOf (heldBy (v .inside)) (classOf (activeAt (v .places .next)) w)
+
+-- whether that interval is an end
+abbrev pub endsAt : Live → ℕ → Bool
+endsAt v w = endOf (activeAt (v .places .next)) w
+
+-- an interval that is not refused
+unfoldable pub takenOf : Live → ℕ → Fed
+takenOf v w =
+    cond (eqb (v .inside .phase) 0)
+    (record { heard = Nothing; live = beginsAnew v (v .places .from) (endsAt v w) })
+    (fedBy (stepAt v w .event) v (stepAt v w .machine) (endsAt v w))
+
+-- An interval of the width w, with so many bytes lent. "An interval past the last is refused with 51 and changes nothing";
+-- 32 is "judged last on every interval".
+unfoldable pub fedOf : Live → (w lent : ℕ) → Fed
+fedOf v w lent =
+    cond (not (eqb (v .places .full) 0)) (record { heard = PastPlaces; live = v })
+    (cond (ltb lent mostBytes) (record { heard = FewLentBytes; live = v })
+    (takenOf v w))
+
+-- the first n of the kept bytes, then the lent ones' own
+abbrev pub laid : ℕ → List ℕ → List ℕ → List ℕ
+laid n kept lent = take n kept ++ drop n lent
+
+-- what an event does to the lent bytes: "Until a frame is complete its bytes stay inside the reader"
+abbrev pub laidBy : Event → Inside → List ℕ → List ℕ
+laidBy Going i lent = lent
+laidBy (Byte b) i lent = lent
+laidBy Closed i lent = laid (heldBy i .count) (i .kept) lent
+laidBy (Faulty f) i lent = lent
+
+-- the lent bytes behind an interval of the width w
+unfoldable pub lentOf : Live → (w : ℕ) → List ℕ → List ℕ
+lentOf v w lent =
+    cond (not (eqb (v .places .full) 0)) lent
+    (cond (ltb (length lent) mostBytes) lent
+    (cond (eqb (v .inside .phase) 0) lent
+    (laidBy (stepAt v w .event) (v .inside) lent)))
+
+-- ## Asking
+
+-- "Quiet and unfinished are asked for separately, at the moment of asking": no opening, or no interval behind it
+unfoldable pub askedOf : Live → Asked
+askedOf v =
+    cond (leb (v .inside .phase) (phaseNumber Sof)) (Quiet (longPlace (v .places .from))) (Unfinished (longPlace (v .places .opening)))

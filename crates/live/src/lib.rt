@@ -1,0 +1,66 @@
+// The live reader by value: one interval more, and what is asked of it between two intervals. What it answers is what
+// reading the whole recording answers; specs/Whole.antt says so of every reader that was started and heard intervals.
+use framing::Fault;
+use framing::Lengths;
+use framing::Response;
+use units::LongPlace;
+
+// The places of a live reader: the place of the next interval, the position from which reading goes on, and the opening of
+// the frame that is being heard. `full` is not 0 once the last place has been heard.
+#[repr(C)]
+pub struct Places {
+    pub next: u64,
+    pub from: u64,
+    pub opening: u64,
+    pub full: u64,
+}
+
+// The frame that is being heard: what the frame machine holds of it, and its bytes so far. Phase 0 is no frame: no end has
+// been heard since the position from which reading goes on.
+#[repr(C)]
+pub struct Inside {
+    pub count: usize,
+    pub began: usize,
+    pub kept: [u8; 12],
+    pub phase: u16,
+    pub partial: u8,
+    pub register: u8,
+}
+
+// A live reader, which its owner lends to each call. All of it is plain numbers, laid out as C has it and without padding:
+// whatever bytes it holds it is a reader, and one of zeros has heard nothing.
+#[repr(C)]
+pub struct Live {
+    pub places: Places,
+    pub inside: Inside,
+}
+
+// What an interval answers: nothing yet, the frame that it closes, the fault that it is at, or a refusal, which changes
+// nothing.
+pub enum Heard {
+    Nothing,
+    Frame {
+        lengths: Lengths,
+        response: Response,
+        opening: LongPlace,
+        next: LongPlace,
+    },
+    Faulty {
+        fault: Fault,
+        next: LongPlace,
+    },
+    PastPlaces,
+    FewLentBytes,
+}
+
+// The reader behind an interval, and what the interval answers.
+pub struct Fed {
+    pub heard: Heard,
+    pub live: Live,
+}
+
+// What there is at the moment of asking: no frame has begun, or one is unfinished.
+pub enum Asked {
+    Quiet { next: LongPlace },
+    Unfinished { opening: LongPlace },
+}
