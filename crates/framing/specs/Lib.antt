@@ -37,3 +37,4 @@ pub mod Again
 pub mod RoundTrip
 pub mod TwoCalls
 pub mod WorkedReading
+pub mod Longer
