@@ -5,7 +5,7 @@ use mathlib.Core.Bool.{Bool, true, false}
 use mathlib.Core.List.{List, [], _∷_, _++_}
 use native.Mathlib.Omega.{arith}
 use lib.Dec.{eqb}
-use lib.ListN.{length, take, set, replicate, getD, length-append, length-set}
+use lib.ListN.{length, take, set, getD, length-append, length-set}
 use lib.Seq.{take-suc-set}
 use Rattle.symbol.specs.declared.Symbol.{Symbol}
 use Rattle.symbol.specs.Classes.{ends}
@@ -35,18 +35,15 @@ pub record Before (ws : List ℕ) (o k : ℕ) (m : Machine) (kept : List ℕ) : 
   pub holds : m ≡ holding (stands ws o k)
   pub keeps : Kept (stands ws o k) kept
 
--- At the SOF's place there is nothing yet.
-pub at-first : (ws : List ℕ) (o : ℕ) (m : Machine) → m ≡ fresh → Before ws o (o + 1) m (replicate mostBytes 0)
+-- At the SOF's place there is nothing yet, whatever the bytes kept aside hold.
+pub at-first : (ws : List ℕ) (o : ℕ) (m : Machine) (kept : List ℕ) → m ≡ fresh → length kept ≡ mostBytes → Before ws o (o + 1) m kept
 unfolding bytes
-at-first ws o m e =
+at-first ws o m kept e h =
     record {
       opened = omega arith;
       holds = e ∙ fresh-holds ∙ ap holding (sym (stands-sof ws o));
-      keeps = rw (stands-sof ws o) (record { room = refl; first = nothing });
+      keeps = rw (stands-sof ws o) (record { room = h; first = refl });
     }
-  where
-    nothing : take (length (soFar atSof)) (replicate mostBytes 0) ≡ soFar atSof
-    nothing = refl
 
 -- ## The bytes kept
 

@@ -27,7 +27,7 @@ add-i : tie.Need-add-i Inv-loop μ-loop
 add-i c = search needs
 
 loop-holds : tie.Need-loop-holds Inv-loop μ-loop
-loop-holds c = (search needs, refl, at-first _ _ _ (c .start .ensures), refl)
+loop-holds c = (search needs, refl, at-first _ _ _ _ (c .start .ensures) refl, refl)
 
 mul-t17 : tie.Need-mul-t17 Inv-loop μ-loop
 mul-t17 c = search needs

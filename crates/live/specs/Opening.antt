@@ -1,0 +1,67 @@
+-- The reader's own state: what the machine gets back of it, how places are counted, and how a frame is begun.
+use Prim.Native.Nat.{ℕ, _+_, _-_, _≤_, _<_}
+use mathlib.Core.Path.{_≡_, refl, sym, ap, subst, _∙_}
+use mathlib.Core.Bool.{Bool, true, false}
+use mathlib.Core.List.{List}
+use mathlib.Core.Logic.{_⊎_, inl, inr}
+use native.Mathlib.Omega.{arith}
+use native.Mathlib.Nat.{eq-or-lt-of-le}
+use lib.Dec.{eqb}
+use lib.ListN.{length}
+use borrow.Author.Tests.{le-leb, eq-eqb, ne-eqb}
+use Rattle.framing.specs.Line.{endAt, nowhere, at, firstIn, opening}
+use Rattle.framing.specs.Faults.{mostBytes}
+use Rattle.framing.specs.Reading.{decides}
+use Rattle.framing.specs.FirstLaws.{orAt, first-next, first-empty}
+use Rattle.machine.specs.declared.Phase.{Phase}
+use Rattle.machine.specs.declared.Phase.the-variants.{Sof, Main, Normalization, Plain, Checked}
+use Rattle.machine.specs.declared.Machine.{Machine}
+use Rattle.machine.specs.Steps.{fresh}
+use Rattle.machine.specs.Following.{Before, at-first}
+use Rattle.live.specs.declared.Places.{Places}
+use Rattle.live.specs.declared.Live.{Live}
+use Rattle.live.specs.Feeding.{lastPlace, phaseNumber, phaseBy, heldBy, insideOf, outside, behind, beginsAnew}
+use Rattle.live.specs.Hearing.{Counts, room, all-heard, Rest, seeks, hears}
+
+-- ## The machine
+
+phase-back : (p : Phase) → phaseBy (phaseNumber p) ≡ p
+phase-back Sof = refl
+phase-back Main = refl
+phase-back Normalization = refl
+phase-back Plain = refl
+phase-back Checked = refl
+
+-- What was put into a reader comes back out of it.
+pub held-inside : (m : Machine) (kept : List ℕ) → m .count ≤ mostBytes → m .began ≤ m .count → heldBy (insideOf m kept) ≡ m
+unfolding heldBy insideOf
+held-inside m kept h k = rw (phase-back (m .phase), le-leb (m .count) mostBytes h, le-leb (m .began) (m .count) k)
+
+-- ## The places
+
+-- One interval more is counted, up to the last place.
+pub counts-on : (n : ℕ) (p : Places) (from opening : ℕ) → p .next ≡ n → n ≤ lastPlace → Counts (n + 1) (behind p from opening)
+unfolding behind
+counts-on n p from opening e h = go (eq-or-lt-of-le h)
+  where
+    go : (n ≡ lastPlace) ⊎ (n < lastPlace) → Counts (n + 1) (behind p from opening)
+    go (inl l) = all-heard (rw (eq-eqb (p .next) lastPlace (e ∙ l))) (ap (λ (x : ℕ). x + 1) l)
+    go (inr l) =
+        let ne : eqb (p .next) lastPlace ≡ false = ne-eqb (p .next) lastPlace (λ x. omega (arith, e)) in
+        room (rw ne) (rw (ne, e)) (omega arith)
+
+-- ## A frame begins
+
+-- Behind an interval at k that no frame goes on with: where it is an end it opens a frame, and nothing of it is heard yet;
+-- otherwise there is no opening yet.
+module _ (ws : List ℕ) (k : ℕ) (long : length ws ≡ k + 1) (v : Live) (at-k : v .places .next ≡ k) (has-room : length (v .inside .kept) ≡ mostBytes) where
+  pub begins : (from : ℕ) → from ≤ k → firstIn (endAt ws) from k ≡ nowhere → (b : Bool) → endAt ws k ≡ b
+      → Rest ws (beginsAnew v from b .places) (beginsAnew v from b .inside)
+  unfolding beginsAnew behind opening
+  begins from h none true e =
+      let opens : firstIn (endAt ws) from (length ws) ≡ at (v .places .next) = rw (long, first-next (endAt ws) from k h, none, e, at-k) in
+      hears fresh (v .inside .kept) refl opens
+      (first-empty (decides ws (v .places .next)) (v .places .next + 1) (length ws) (omega (arith, long, at-k)))
+      (subst (λ (x : ℕ). Before ws (v .places .next) x fresh (v .inside .kept)) (ap (λ (x : ℕ). x + 1) at-k ∙ sym long) (at-first ws (v .places .next) fresh (v .inside .kept) refl has-room))
+  begins from h none false e =
+      seeks (v .inside .kept) refl has-room (rw (long, first-next (endAt ws) from k h, none, e))
