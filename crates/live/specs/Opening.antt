@@ -11,7 +11,7 @@ use lib.ListN.{length}
 use borrow.Author.Tests.{le-leb, eq-eqb, ne-eqb}
 use Rattle.framing.specs.Line.{endAt, nowhere, at, firstIn, opening}
 use Rattle.framing.specs.Faults.{mostBytes}
-use Rattle.framing.specs.Reading.{decides}
+use Rattle.framing.specs.Reading.{Outcome, decides}
 use Rattle.framing.specs.FirstLaws.{orAt, first-next, first-empty}
 use Rattle.machine.specs.declared.Phase.{Phase}
 use Rattle.machine.specs.declared.Phase.the-variants.{Sof, Main, Normalization, Plain, Checked}
@@ -21,7 +21,7 @@ use Rattle.machine.specs.Following.{Before, at-first}
 use Rattle.live.specs.declared.Places.{Places}
 use Rattle.live.specs.declared.Live.{Live}
 use Rattle.live.specs.Feeding.{lastPlace, phaseNumber, phaseBy, heldBy, insideOf, outside, behind, beginsAnew}
-use Rattle.live.specs.Hearing.{Counts, room, all-heard, Rest, seeks, hears}
+use Rattle.live.specs.Hearing.{Reached, Counts, room, all-heard, Rest, seeks, hears, Hears}
 
 -- ## The machine
 
@@ -65,3 +65,20 @@ module _ (ws : List ℕ) (k : ℕ) (long : length ws ≡ k + 1) (v : Live) (at-k
       (subst (λ (x : ℕ). Before ws (v .places .next) x fresh (v .inside .kept)) (ap (λ (x : ℕ). x + 1) at-k ∙ sym long) (at-first ws (v .places .next) fresh (v .inside .kept) refl has-room))
   begins from h none false e =
       seeks (v .inside .kept) refl has-room (rw (long, first-next (endAt ws) from k h, none, e))
+
+  -- A reader that then goes on from there has heard all of it.
+  pub begins-hears : (xs : List Outcome) (from : ℕ) → k ≤ lastPlace → from ≤ k → firstIn (endAt ws) from k ≡ nowhere → (b : Bool) → endAt ws k ≡ b
+      → Reached ws from xs → Hears ws xs (beginsAnew v from b)
+  unfolding beginsAnew behind
+  begins-hears xs from fits h none true e r =
+      record {
+        reached = r;
+        counts = subst (λ (n : ℕ). Counts n (beginsAnew v from true .places)) (sym long) (counts-on k (v .places) from (v .places .next) at-k fits);
+        rest = begins from h none true e;
+      }
+  begins-hears xs from fits h none false e r =
+      record {
+        reached = r;
+        counts = subst (λ (n : ℕ). Counts n (beginsAnew v from false .places)) (sym long) (counts-on k (v .places) from (v .places .opening) at-k fits);
+        rest = begins from h none false e;
+      }
