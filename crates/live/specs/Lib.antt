@@ -2,3 +2,4 @@ pub mod Feeding
 pub mod Hearing
 pub mod Opening
 pub mod Taking
+pub mod Heard

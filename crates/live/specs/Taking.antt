@@ -31,7 +31,7 @@ use Rattle.machine.specs.Following.{Before, Says, some-fault, held-few, held-be
 use Rattle.live.specs.declared.Places.{Places}
 use Rattle.live.specs.declared.Live.{Live}
 use Rattle.live.specs.declared.Fed.{Fed}
-use Rattle.live.specs.Feeding.{lastPlace, heldBy, insideOf, outside, behind, beginsAnew, goesOn as goesOnWith, fedBy, laidBy}
+use Rattle.live.specs.Feeding.{lastPlace, heldBy, insideOf, outside, behind, beginsAnew, goesOn as goesOnWith, fedBy, stepAt, endsAt, laidBy}
 use Rattle.live.specs.Hearing.{toldBy, Reached, none-yet, one-more, Counts, Rest, seeks, hears, Hears, Takes, decides-nothing, decides-one}
 use Rattle.live.specs.Opening.{held-inside, counts-on, begins-hears}
 
@@ -42,10 +42,10 @@ reached-in {ws} (one-more {p} r g) = omega (arith, progress ws p mostBytes g .1)
 
 module _ (ws : List ℕ) (w : ℕ) where
   -- the recording with one interval more
-  abbrev on : List ℕ
+  abbrev pub on : List ℕ
   on = ws ++ (w ∷ [])
 
-  long : length on ≡ length ws + 1
+  pub long : length on ≡ length ws + 1
   long = length-append ws (w ∷ [])
 
   same : (j : ℕ) → j < length ws → getD ws j 0 ≡ getD on j 0
@@ -58,19 +58,19 @@ module _ (ws : List ℕ) (w : ℕ) where
   unfolding symbolAt
   symbol-here = rw here
 
-  end-here : endOf (activeAt (length ws)) w ≡ endAt on (length ws)
+  pub end-here : endOf (activeAt (length ws)) w ≡ endAt on (length ws)
   unfolding endAt
   end-here = rw here
 
   -- The frames and faults told so far stay.
-  reached-on : {p : ℕ} {xs : List Outcome} → Reached ws p xs → Reached on p xs
+  pub reached-on : {p : ℕ} {xs : List Outcome} → Reached ws p xs → Reached on p xs
   reached-on none-yet = none-yet
   reached-on (one-more {p} {xs} r g) =
       let e : reading on p mostBytes ≡ reading ws p mostBytes = reading-stays ws on (omega (arith, long)) same p mostBytes g in
       subst (λ (x : Outcome). Reached on (nextOf x) (xs ++ (x ∷ []))) e (one-more (reached-on r) (rw e g))
 
   -- What was no opening before the interval is none now.
-  none-still : (from : ℕ) → opening ws from ≡ nowhere → firstIn (endAt on) from (length ws) ≡ nowhere
+  pub none-still : (from : ℕ) → opening ws from ≡ nowhere → firstIn (endAt on) from (length ws) ≡ nowhere
   unfolding opening
   none-still from e =
       sym (first-same (endAt ws) (endAt on) from (length ws - from) (λ j a b. end-same ws on (length ws) same j (omega arith))) ∙ e
@@ -165,3 +165,11 @@ module _ (ws : List ℕ) (w : ℕ) (v : Live) (xs : List Outcome) (was : Reached
       let x : Outcome = faulty (faultNumber f) k in
       let r : reading (on ws w) (v .places .from) mostBytes ≡ x = reads (s .0) ∙ rw (s .1, some-fault f) in
       decides-one x refl refl (rw at-k) refl (ends-with x refl refl r b q)
+
+  -- So does the next interval, whatever its width.
+  pub takes-next : (entry : List ℕ) → Takes ws xs w entry (laidBy (stepAt v w .event) (v .inside) entry) (fedBy (stepAt v w .event) v (stepAt v w .machine) (endsAt v w))
+  takes-next entry =
+      let symbol-is : classOf (activeAt (v .places .next)) w ≡ symbolAt (on ws w) k = ap (λ (x : ℕ). classOf (activeAt x) w) at-k ∙ symbol-here ws w in
+      let end-is : endAt (on ws w) k ≡ endsAt v w = sym (end-here ws w) ∙ ap (λ (x : ℕ). endOf (activeAt x) w) (sym at-k) in
+      let stepped : stepAt v w ≡ stepOf m (classOf (activeAt (v .places .next)) w) = ap (λ (x : Machine). stepOf x (classOf (activeAt (v .places .next)) w)) held-is in
+      takes entry (stepAt v w .event) (stepAt v w .machine) (endsAt v w) end-is (says-by (on ws w) o k m kept before (classOf (activeAt (v .places .next)) w) (stepAt v w) (stepAt v w .event) symbol-is stepped refl)
