@@ -73,3 +73,11 @@ module _ (ws : List ℕ) (xs : List Outcome) (v : Live) (h : Hears ws xs v) (w :
   taken entry none-full at-k fits enough (hears m kept is opens none stood) =
       rw (eq-eqb (v .places .full) 0 none-full, le-ltb (length entry) mostBytes enough, in-frame m kept is)
       (takes-next ws w v xs (h .reached) at-k fits m kept is opens none stood entry)
+
+  -- Where the interval has a place and twelve bytes are lent it is taken.
+  pub takes-it : length ws ≤ lastPlace → (entry : List ℕ) → mostBytes ≤ length entry → Takes ws xs w entry (lentOf v w entry) (fedOf v w (length entry))
+  takes-it fits entry enough = go (h .counts)
+    where
+      go : Counts (length ws) (v .places) → Takes ws xs w entry (lentOf v w entry) (fedOf v w (length entry))
+      go (room f n l) = taken entry f n fits enough (h .rest)
+      go (all-heard f n) = absurd (omega (arith, n, fits))

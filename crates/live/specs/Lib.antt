@@ -3,3 +3,5 @@ pub mod Hearing
 pub mod Opening
 pub mod Taking
 pub mod Heard
+pub mod Refused
+pub mod Asking
