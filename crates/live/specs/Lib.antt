@@ -5,3 +5,4 @@ pub mod Taking
 pub mod Heard
 pub mod Refused
 pub mod Asking
+pub mod Whole
