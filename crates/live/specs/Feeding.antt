@@ -107,14 +107,26 @@ goesOn v m kept = record { places = behind (v .places) (v .places .from) (v .pla
 abbrev pub heardFrame : Parts → (opening closing : ℕ) → Heard
 heardFrame p opening closing = Frame (p .lengths) (p .response) (longPlace opening) (longPlace closing)
 
+-- an interval that decides nothing yet
+abbrev pub stillOpen : Live → Machine → (kept : List ℕ) → Fed
+stillOpen v m kept = record { heard = Nothing; live = goesOn v m kept }
+
+-- the interval that closes the frame which the machine m holds
+abbrev pub closedFrame : Live → Machine → (end : Bool) → Fed
+closedFrame v m end =
+    record { heard = heardFrame (partsOf m) (v .places .opening) (v .places .next); live = beginsAnew v (v .places .next) end }
+
+-- an interval at fault
+abbrev pub faultHeard : Live → Fault → (end : Bool) → Fed
+faultHeard v f end =
+    record { heard = FaultyHeard f (longPlace (v .places .next)); live = beginsAnew v (v .places .next) end }
+
 -- what an event of the machine does, where it then holds m; `end` says whether the interval is an end
 abbrev pub fedBy : Event → Live → Machine → (end : Bool) → Fed
-fedBy Going v m end = record { heard = Nothing; live = goesOn v m (v .inside .kept) }
-fedBy (Byte b) v m end = record { heard = Nothing; live = goesOn v m (set (v .inside .kept) (heldBy (v .inside) .count) b) }
-fedBy Closed v m end =
-    record { heard = heardFrame (partsOf (heldBy (v .inside))) (v .places .opening) (v .places .next); live = beginsAnew v (v .places .next) end }
-fedBy (Faulty f) v m end =
-    record { heard = FaultyHeard f (longPlace (v .places .next)); live = beginsAnew v (v .places .next) end }
+fedBy Going v m end = stillOpen v m (v .inside .kept)
+fedBy (Byte b) v m end = stillOpen v m (set (v .inside .kept) (heldBy (v .inside) .count) b)
+fedBy Closed v m end = closedFrame v (heldBy (v .inside)) end
+fedBy (Faulty f) v m end = faultHeard v f end
 
 -- what the machine of a reader does at its next interval, which has the width w
 abbrev pub stepAt : Live → ℕ → Stepped
@@ -124,11 +136,14 @@ stepAt v w = stepOf (heldBy (v .inside)) (classOf (activeAt (v .places .next)) w
 abbrev pub endsAt : Live → ℕ → Bool
 endsAt v w = endOf (activeAt (v .places .next)) w
 
+-- an interval that stands in no frame
+abbrev pub waiting : Live → ℕ → Fed
+waiting v w = record { heard = Nothing; live = beginsAnew v (v .places .from) (endsAt v w) }
+
 -- an interval that is not refused
 unfoldable pub takenOf : Live → ℕ → Fed
 takenOf v w =
-    cond (eqb (v .inside .phase) 0)
-    (record { heard = Nothing; live = beginsAnew v (v .places .from) (endsAt v w) })
+    cond (eqb (v .inside .phase) 0) (waiting v w)
     (fedBy (stepAt v w .event) v (stepAt v w .machine) (endsAt v w))
 
 -- An interval of the width w, with so many bytes lent. "An interval past the last is refused with 51 and changes nothing";

@@ -1,9 +1,22 @@
 // The live reader by value: one interval more, and what is asked of it between two intervals. What it answers is what
 // reading the whole recording answers; specs/Whole.antt says so of every reader that was started and heard intervals.
+mod held;
+mod taken;
+
+ghost use mathlib.Core.Path.{_≡_};
+ghost use lib.ListN.{length};
+ghost use Rattle.live.specs.Feeding.{started, fedOf, lentOf, askedOf};
 use framing::Fault;
 use framing::Lengths;
 use framing::Response;
+use held::NO_FRAME;
+use held::SOF_NEXT;
+use held::outside;
+use machine::MOST_BYTES;
+use taken::inside_frame;
+use taken::outside_frame;
 use units::LongPlace;
+use units::Micros;
 
 // The places of a live reader: the place of the next interval, the position from which reading goes on, and the opening of
 // the frame that is being heard. `full` is not 0 once the last place has been heard.
@@ -63,4 +76,61 @@ pub struct Fed {
 pub enum Asked {
     Quiet { next: LongPlace },
     Unfinished { opening: LongPlace },
+}
+
+// A reader that has heard nothing.
+pub fn start() -> Live
+    ensures { λ r. ⌜ r ≡ started ⌝ }
+{
+    Live {
+        places: Places {
+            next: 0,
+            from: 0,
+            opening: 0,
+            full: 0,
+        },
+        inside: outside([0u8; MOST_BYTES]),
+    }
+}
+
+// One interval more. Both refusals leave the reader and the lent bytes as they are; otherwise the interval stands before a
+// frame or in one.
+pub fn hear(live: Live, width: Micros, lent: &mut [u8]) -> Fed
+    ensures { λ r. ⌜ r ≡ fedOf live (width .0) (length (now (lent .entry))) ⌝ }
+    ensures { λ _. ⌜ now (lent .exit) ≡ lentOf live (width .0) (now (lent .entry)) ⌝ }
+{
+    let places = live.places;
+    let inside = live.inside;
+    if places.full != 0 {
+        return Fed {
+            heard: Heard::PastPlaces,
+            live,
+        };
+    }
+    if lent.len() < MOST_BYTES {
+        return Fed {
+            heard: Heard::FewLentBytes,
+            live,
+        };
+    }
+    if inside.phase == NO_FRAME {
+        return outside_frame(live, width);
+    }
+    inside_frame(live, width, lent)
+}
+
+// What there is between two intervals. An opening that no interval follows yet is no unfinished frame.
+pub fn ask(live: Live) -> Asked
+    ensures { λ r. ⌜ r ≡ askedOf live ⌝ }
+{
+    let places = live.places;
+    let inside = live.inside;
+    if inside.phase <= SOF_NEXT {
+        return Asked::Quiet {
+            next: LongPlace(places.from),
+        };
+    }
+    Asked::Unfinished {
+        opening: LongPlace(places.opening),
+    }
 }

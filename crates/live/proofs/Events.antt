@@ -1,0 +1,46 @@
+-- What the four events of the frame machine do, by what the code has at hand.
+use Prim.Native.Nat.{ℕ, _≤_}
+use mathlib.Core.Path.{_≡_, refl, ap}
+use mathlib.Core.Bool.{Bool, true, false}
+use mathlib.Core.List.{List}
+use native.Mathlib.Omega.{arith}
+use lib.Dec.{leb}
+use borrow.Author.Tests.{leb-true, leb-false}
+use Rattle.symbol.specs.declared.Symbol.{Symbol}
+use Rattle.symbol.specs.Classes.{classOf, endOf}
+use Rattle.framing.specs.Line.{activeAt}
+use Rattle.framing.specs.Faults.{mostBytes}
+use Rattle.machine.specs.declared.Machine.{Machine}
+use Rattle.machine.specs.declared.Event.{Event}
+use Rattle.machine.specs.declared.Stepped.{Stepped}
+use Rattle.machine.specs.Steps.{stepOf}
+use Rattle.live.specs.declared.Inside.{Inside}
+use Rattle.live.specs.declared.Live.{Live}
+use Rattle.live.specs.Feeding.{least, heldBy, fedBy, laidBy, stepAt, endsAt}
+
+-- a reader holds no more bytes than a frame has
+pub held-few : (i : Inside) → heldBy i .count ≤ mostBytes
+unfolding heldBy
+held-few i = go (leb (i .count) mostBytes) refl
+  where
+    go : (b : Bool) → leb (i .count) mostBytes ≡ b → least (i .count) mostBytes ≤ mostBytes
+    go true e = rw e (leb-true _ _ e)
+    go false e = rw e (omega arith)
+
+-- what the code has of a reader's interval before it looks at the event
+pub record Steps (v : Live) (w : ℕ) (end : Bool) (t : Stepped) : Type 0 where
+  pub steps : t ≡ stepAt v w
+  pub ends : end ≡ endsAt v w
+
+pub steps-by : (v : Live) (w : ℕ) (active end : Bool) (m : Machine) (s : Symbol) (t : Stepped) → active ≡ activeAt (v .places .next)
+    → end ≡ endOf active w → m ≡ heldBy (v .inside) → s ≡ classOf active w → t ≡ stepOf m s → Steps v w end t
+steps-by v w active end m s t a n h e g = record { steps = rw (g, h, e, a); ends = rw (n, a) }
+
+-- the event decides what is answered, and what becomes of the lent bytes
+pub fed-by : (v : Live) (w : ℕ) (end : Bool) (t : Stepped) → Steps v w end t → (k : Event) → t .event ≡ k
+    → fedBy k v (t .machine) end ≡ fedBy (stepAt v w .event) v (stepAt v w .machine) (endsAt v w)
+fed-by v w end t h k e = rw (← e, h .ends) (ap (λ (x : Stepped). fedBy (x .event) v (x .machine) (endsAt v w)) (h .steps))
+
+pub laid-by : (v : Live) (w : ℕ) (end : Bool) (t : Stepped) → Steps v w end t → (k : Event) → t .event ≡ k
+    → (lent : List ℕ) → laidBy k (v .inside) lent ≡ laidBy (stepAt v w .event) (v .inside) lent
+laid-by v w end t h k e lent = rw (← e) (ap (λ (x : Stepped). laidBy (x .event) (v .inside) lent) (h .steps))

@@ -1,0 +1,40 @@
+-- `live::begins_anew` meets its contract: an end opens, and anything else does not.
+use Rattle.live.specs.Feeding.{beginsAnew}
+use borrow.Author.Needs.{needs}
+use Rattle.live.proofs.taken.begins_anew.Statement.{statement}
+use Rattle.live.proofs.taken.begins_anew.Tie as tie
+
+behind-requires : tie.Need-behind-requires
+behind-requires c κs = search needs
+
+start-requires : tie.Need-start-requires
+start-requires c κs = search needs
+
+inside-of-requires : tie.Need-inside-of-requires
+inside-of-requires c κs = search needs
+
+returns : tie.Need-returns
+unfolding beginsAnew
+returns c = rw (c .before .before .before .if1 .taken, c .inside-of .ensures, c .before .start .ensures, c .before .before .behind .ensures)
+
+behind-requires-2 : tie.Need-behind-requires-2
+behind-requires-2 c κs = search needs
+
+outside-requires : tie.Need-outside-requires
+outside-requires c κs = search needs
+
+returns-2 : tie.Need-returns-2
+unfolding beginsAnew
+returns-2 c = rw (c .before .before .if1 .left, c .outside .ensures, c .before .behind2 .ensures)
+
+pub begins-anew-spec : {M : Type 1} → statement M
+begins-anew-spec =
+    tie.close
+    (tie.spec
+    behind-requires
+    start-requires
+    inside-of-requires
+    returns
+    behind-requires-2
+    outside-requires
+    returns-2)

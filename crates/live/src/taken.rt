@@ -1,0 +1,193 @@
+// One interval that is not refused: where the reader stands behind it, and what it answers.
+ghost use mathlib.Core.Path.{_≡_};
+ghost use Prim.Native.Nat.{_≤_};
+ghost use lib.ListN.{length, set};
+ghost use Rattle.framing.specs.Faults.{mostBytes};
+ghost use Rattle.framing.specs.Line.{activeAt};
+ghost use Rattle.live.specs.Feeding.{behind as behindOf, beginsAnew, goesOn, laid, laidBy, stillOpen, closedFrame, faultHeard, waiting, fedBy, stepAt, endsAt};
+use crate::Fed;
+use crate::Heard;
+use crate::Live;
+use crate::Places;
+use crate::held::held_by;
+use crate::held::inside_of;
+use crate::held::outside;
+use framing::Fault;
+use machine::Event;
+use machine::MOST_BYTES;
+use machine::Machine;
+use units::LongPlace;
+use units::Micros;
+
+// The last place that 64 bits count, and what says that it has been heard.
+const LAST_PLACE: u64 = 18446744073709551615;
+
+const FULL: u64 = 1;
+
+// The level at a place: active at the odd ones.
+fn active_at(place: u64) -> bool
+    ensures { λ r. ⌜ r ≡ activeAt place ⌝ }
+{
+    place % 2 == 1
+}
+
+// The places behind an interval. Behind the last place there is none to count on to.
+fn behind(places: Places, from: u64, opening: u64) -> Places
+    ensures { λ r. ⌜ r ≡ behindOf places from opening ⌝ }
+{
+    let next = places.next;
+    if next == LAST_PLACE {
+        return Places {
+            next,
+            from,
+            opening,
+            full: FULL,
+        };
+    }
+    Places {
+        next: next + 1,
+        from,
+        opening,
+        full: 0,
+    }
+}
+
+// Behind an interval that stands in no frame, or that ends one: an end opens the next frame.
+fn begins_anew(live: Live, from: u64, end: bool) -> Live
+    ensures { λ r. ⌜ r ≡ beginsAnew live from end ⌝ }
+{
+    let places = live.places;
+    let inside = live.inside;
+    let kept = inside.kept;
+    let here = places.next;
+    let opening = places.opening;
+    if end {
+        return Live {
+            places: behind(places, from, here),
+            inside: inside_of(machine::start(), kept),
+        };
+    }
+    Live {
+        places: behind(places, from, opening),
+        inside: outside(kept),
+    }
+}
+
+// Behind an interval that leaves its frame open.
+fn goes_on(live: Live, machine: Machine, kept: [u8; MOST_BYTES]) -> Live
+    ensures { λ r. ⌜ r ≡ goesOn live machine kept ⌝ }
+{
+    let places = live.places;
+    let from = places.from;
+    let opening = places.opening;
+    Live {
+        places: behind(places, from, opening),
+        inside: inside_of(machine, kept),
+    }
+}
+
+// The bytes so far with one more. The machine tells of no byte past the last place, which is why none is lost here.
+fn with_byte(kept: [u8; MOST_BYTES], at: usize, byte: u8) -> [u8; MOST_BYTES]
+    ensures { λ r. ⌜ r ≡ set kept at byte ⌝ }
+{
+    let mut kept = kept;
+    if at < MOST_BYTES {
+        kept[at] = byte;
+    }
+    kept
+}
+
+// The bytes of a frame that is closed stand first in the lent bytes, whose rest stays.
+fn lay(kept: [u8; MOST_BYTES], count: usize, lent: &mut [u8])
+    requires { ⌜ count ≤ mostBytes ⌝ }
+    requires { ⌜ mostBytes ≤ length (now lent) ⌝ }
+    ensures { λ _. ⌜ now (lent .exit) ≡ laid count kept (now (lent .entry)) ⌝ }
+{
+    bytes::copy(&kept[..count], lent);
+}
+
+// The interval decides nothing yet.
+fn going(live: Live, machine: Machine, kept: [u8; MOST_BYTES]) -> Fed
+    ensures { λ r. ⌜ r ≡ stillOpen live machine kept ⌝ }
+{
+    Fed {
+        heard: Heard::Nothing,
+        live: goes_on(live, machine, kept),
+    }
+}
+
+// The frame that the interval closes: its parts, where it opens, and its closing end, from which reading goes on.
+fn closed(live: Live, machine: Machine, end: bool) -> Fed
+    ensures { λ r. ⌜ r ≡ closedFrame live machine end ⌝ }
+{
+    let places = live.places;
+    let here = places.next;
+    let opening = places.opening;
+    let parts = machine::parts_of(machine);
+    let lengths = parts.lengths;
+    let response = parts.response;
+    Fed {
+        heard: Heard::Frame {
+            lengths,
+            response,
+            opening: LongPlace(opening),
+            next: LongPlace(here),
+        },
+        live: begins_anew(live, here, end),
+    }
+}
+
+// The interval is at fault, and reading goes on from it.
+fn at_fault(live: Live, fault: Fault, end: bool) -> Fed
+    ensures { λ r. ⌜ r ≡ faultHeard live fault end ⌝ }
+{
+    let places = live.places;
+    let here = places.next;
+    Fed {
+        heard: Heard::Faulty {
+            fault,
+            next: LongPlace(here),
+        },
+        live: begins_anew(live, here, end),
+    }
+}
+
+// An interval in no frame: an end is the opening, and anything else is passed over.
+pub fn outside_frame(live: Live, width: Micros) -> Fed
+    ensures { λ r. ⌜ r ≡ waiting live (width .0) ⌝ }
+{
+    let places = live.places;
+    let from = places.from;
+    let end = symbol::is_end(active_at(places.next), width);
+    Fed {
+        heard: Heard::Nothing,
+        live: begins_anew(live, from, end),
+    }
+}
+
+// An interval in a frame: one step of the frame machine. Until the frame is closed its bytes stay in the reader.
+pub fn inside_frame(live: Live, width: Micros, lent: &mut [u8]) -> Fed
+    requires { ⌜ mostBytes ≤ length (now lent) ⌝ }
+    ensures { λ r. ⌜ r ≡ fedBy (stepAt live (width .0) .event) live (stepAt live (width .0) .machine) (endsAt live (width .0)) ⌝ }
+    ensures { λ _. ⌜ now (lent .exit) ≡ laidBy (stepAt live (width .0) .event) (live .inside) (now (lent .entry)) ⌝ }
+{
+    let places = live.places;
+    let inside = live.inside;
+    let kept = inside.kept;
+    let active = active_at(places.next);
+    let end = symbol::is_end(active, width);
+    let held = held_by(inside);
+    let count = held.count;
+    let stepped = machine::step(held, symbol::class(active, width));
+    let event = stepped.event;
+    let then = stepped.machine;
+    match event {
+        Event::Going => going(live, then, kept),
+        Event::Byte(byte) => going(live, then, with_byte(kept, count, byte)),
+        Event::Closed => {
+            lay(kept, count, lent);
+            closed(live, held, end)
+        }
+        Event::Faulty(fault) => at_fault(live, fault, end),
+    }
+}
