@@ -110,7 +110,7 @@ fn closed(live: Live, machine: Machine, end: bool) -> Fed
     ensures { λ r. ⌜ r ≡ closedFrame live machine end ⌝ }
 {
     let places = live.places;
-    let here = places.next;
+    let closing = places.next;
     let opening = places.opening;
     let parts = machine::parts_of(machine);
     let lengths = parts.lengths;
@@ -120,9 +120,9 @@ fn closed(live: Live, machine: Machine, end: bool) -> Fed
             lengths,
             response,
             opening: LongPlace(opening),
-            next: LongPlace(here),
+            next: LongPlace(closing),
         },
-        live: begins_anew(live, here, end),
+        live: begins_anew(live, closing, end),
     }
 }
 
