@@ -1,2 +1,3 @@
 mod Laying
 mod Events
+mod Room

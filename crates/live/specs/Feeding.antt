@@ -146,12 +146,16 @@ takenOf v w =
     cond (eqb (v .inside .phase) 0) (waiting v w)
     (fedBy (stepAt v w .event) v (stepAt v w .machine) (endsAt v w))
 
+-- an interval that is refused
+abbrev pub refusedBy : Live → Heard → Fed
+refusedBy v h = record { heard = h; live = v }
+
 -- An interval of the width w, with so many bytes lent. "An interval past the last is refused with 51 and changes nothing";
 -- 32 is "judged last on every interval".
 unfoldable pub fedOf : Live → (w lent : ℕ) → Fed
 fedOf v w lent =
-    cond (not (eqb (v .places .full) 0)) (record { heard = PastPlaces; live = v })
-    (cond (ltb lent mostBytes) (record { heard = FewLentBytes; live = v })
+    cond (not (eqb (v .places .full) 0)) (refusedBy v PastPlaces)
+    (cond (ltb lent mostBytes) (refusedBy v FewLentBytes)
     (takenOf v w))
 
 -- the first n of the kept bytes, then the lent ones' own

@@ -5,7 +5,7 @@ mod taken;
 
 ghost use mathlib.Core.Path.{_≡_};
 ghost use lib.ListN.{length};
-ghost use Rattle.live.specs.Feeding.{started, fedOf, lentOf, askedOf};
+ghost use Rattle.live.specs.Feeding.{started, refusedBy, fedOf, lentOf, askedOf};
 use framing::Fault;
 use framing::Lengths;
 use framing::Response;
@@ -93,6 +93,13 @@ pub fn start() -> Live
     }
 }
 
+// A refusal: the reader is as it was.
+fn refused(live: Live, heard: Heard) -> Fed
+    ensures { λ r. ⌜ r ≡ refusedBy live heard ⌝ }
+{
+    Fed { heard, live }
+}
+
 // One interval more. Both refusals leave the reader and the lent bytes as they are; otherwise the interval stands before a
 // frame or in one.
 pub fn hear(live: Live, width: Micros, lent: &mut [u8]) -> Fed
@@ -101,17 +108,13 @@ pub fn hear(live: Live, width: Micros, lent: &mut [u8]) -> Fed
 {
     let places = live.places;
     let inside = live.inside;
-    if places.full != 0 {
-        return Fed {
-            heard: Heard::PastPlaces,
-            live,
-        };
+    let past = places.full != 0;
+    let few = lent.len() < MOST_BYTES;
+    if past {
+        return refused(live, Heard::PastPlaces);
     }
-    if lent.len() < MOST_BYTES {
-        return Fed {
-            heard: Heard::FewLentBytes,
-            live,
-        };
+    if few {
+        return refused(live, Heard::FewLentBytes);
     }
     if inside.phase == NO_FRAME {
         return outside_frame(live, width);

@@ -1,7 +1,7 @@
 // One interval that is not refused: where the reader stands behind it, and what it answers.
 ghost use mathlib.Core.Path.{_≡_};
 ghost use Prim.Native.Nat.{_≤_};
-ghost use lib.ListN.{length, set};
+ghost use lib.ListN.{length};
 ghost use Rattle.framing.specs.Faults.{mostBytes};
 ghost use Rattle.framing.specs.Line.{activeAt};
 ghost use Rattle.live.specs.Feeding.{behind as behindOf, beginsAnew, goesOn, laid, laidBy, stillOpen, closedFrame, faultHeard, waiting, fedBy, stepAt, endsAt};
@@ -86,17 +86,6 @@ fn goes_on(live: Live, machine: Machine, kept: [u8; MOST_BYTES]) -> Live
     }
 }
 
-// The bytes so far with one more. The machine tells of no byte past the last place, which is why none is lost here.
-fn with_byte(kept: [u8; MOST_BYTES], at: usize, byte: u8) -> [u8; MOST_BYTES]
-    ensures { λ r. ⌜ r ≡ set kept at byte ⌝ }
-{
-    let mut kept = kept;
-    if at < MOST_BYTES {
-        kept[at] = byte;
-    }
-    kept
-}
-
 // The bytes of a frame that is closed stand first in the lent bytes, whose rest stays.
 fn lay(kept: [u8; MOST_BYTES], count: usize, lent: &mut [u8])
     requires { ⌜ count ≤ mostBytes ⌝ }
@@ -121,7 +110,7 @@ fn closed(live: Live, machine: Machine, end: bool) -> Fed
     ensures { λ r. ⌜ r ≡ closedFrame live machine end ⌝ }
 {
     let places = live.places;
-    let here = places.next;
+    let closing = places.next;
     let opening = places.opening;
     let parts = machine::parts_of(machine);
     let lengths = parts.lengths;
@@ -131,9 +120,9 @@ fn closed(live: Live, machine: Machine, end: bool) -> Fed
             lengths,
             response,
             opening: LongPlace(opening),
-            next: LongPlace(here),
+            next: LongPlace(closing),
         },
-        live: begins_anew(live, here, end),
+        live: begins_anew(live, closing, end),
     }
 }
 
@@ -165,7 +154,8 @@ pub fn outside_frame(live: Live, width: Micros) -> Fed
     }
 }
 
-// An interval in a frame: one step of the frame machine. Until the frame is closed its bytes stay in the reader.
+// An interval in a frame: one step of the frame machine. Until the frame is closed its bytes stay in the reader, which has
+// room for each that the machine tells of.
 pub fn inside_frame(live: Live, width: Micros, lent: &mut [u8]) -> Fed
     requires { ⌜ mostBytes ≤ length (now lent) ⌝ }
     ensures { λ r. ⌜ r ≡ fedBy (stepAt live (width .0) .event) live (stepAt live (width .0) .machine) (endsAt live (width .0)) ⌝ }
@@ -173,7 +163,7 @@ pub fn inside_frame(live: Live, width: Micros, lent: &mut [u8]) -> Fed
 {
     let places = live.places;
     let inside = live.inside;
-    let kept = inside.kept;
+    let mut kept = inside.kept;
     let active = active_at(places.next);
     let end = symbol::is_end(active, width);
     let held = held_by(inside);
@@ -183,7 +173,10 @@ pub fn inside_frame(live: Live, width: Micros, lent: &mut [u8]) -> Fed
     let then = stepped.machine;
     match event {
         Event::Going => going(live, then, kept),
-        Event::Byte(byte) => going(live, then, with_byte(kept, count, byte)),
+        Event::Byte(byte) => {
+            kept[count] = byte;
+            going(live, then, kept)
+        }
         Event::Closed => {
             lay(kept, count, lent);
             closed(live, held, end)

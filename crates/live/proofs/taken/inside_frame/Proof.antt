@@ -1,6 +1,7 @@
 -- `live::inside_frame` meets its contract: each arm is the line of the definition for its event.
 use mathlib.Core.Path.{_∙_}
 use Rattle.live.proofs.Events.{held-few, steps-by, fed-by, laid-by}
+use Rattle.live.proofs.Room.{has-room}
 use borrow.Author.Needs.{needs}
 use Rattle.live.proofs.taken.inside_frame.Statement.{statement}
 use Rattle.live.proofs.taken.inside_frame.Tie as tie
@@ -29,8 +30,8 @@ going-requires c κs = search needs
 enum-known-event : tie.Need-enum-known-event
 enum-known-event c = search needs
 
-with-byte-requires : tie.Need-with-byte-requires
-with-byte-requires c κs = search needs
+array-write-kept : tie.Need-array-write-kept
+array-write-kept c = has-room (c .before .before .before .before .before .before .held-by .result) (c .before .before .before .before .before .class .result) _ _ (c .before .before .before .before .step .ensures) (c .before .event .given .1)
 
 going-requires-2 : tie.Need-going-requires-2
 going-requires-2 c κs = search needs
@@ -54,7 +55,7 @@ returns : tie.Need-returns
 returns c = let a = c .before .before .before .before .before .before .before .before .before .before .before .before .before .args in let s = steps-by (a .live) (a .width .0) _ _ _ _ _ (c .before .before .before .before .before .before .before .before .active-at .ensures) (c .before .before .before .before .before .before .before .is-end .ensures) (c .before .before .before .before .before .before .held-by .ensures) (c .before .before .before .before .before .class .ensures) (c .before .before .before .before .step .ensures) in (c .going .ensures ∙ fed-by _ _ _ _ s _ (c .before .enum-told .given .1), laid-by _ _ _ _ s _ (c .before .enum-told .given .1) _)
 
 returns-2 : tie.Need-returns-2
-returns-2 c = let a = c .before .before .before .before .before .before .before .before .before .before .before .before .before .before .before .args in let s = steps-by (a .live) (a .width .0) _ _ _ _ _ (c .before .before .before .before .before .before .before .before .before .before .active-at .ensures) (c .before .before .before .before .before .before .before .before .before .is-end .ensures) (c .before .before .before .before .before .before .before .before .held-by .ensures) (c .before .before .before .before .before .before .before .class .ensures) (c .before .before .before .before .before .before .step .ensures) in (rw (c .before .with-byte .ensures, c .before .before .before .before .before .before .before .before .held-by .ensures) at (c .going2 .ensures) ∙ fed-by _ _ _ _ s _ (c .before .before .before .event .given .1), laid-by _ _ _ _ s _ (c .before .before .before .event .given .1) _)
+returns-2 c = let a = c .before .before .before .before .before .before .before .before .before .before .before .before .before .before .args in let s = steps-by (a .live) (a .width .0) _ _ _ _ _ (c .before .before .before .before .before .before .before .before .before .active-at .ensures) (c .before .before .before .before .before .before .before .before .is-end .ensures) (c .before .before .before .before .before .before .before .held-by .ensures) (c .before .before .before .before .before .before .class .ensures) (c .before .before .before .before .before .step .ensures) in (rw (c .before .before .before .before .before .before .before .held-by .ensures) at (c .going2 .ensures) ∙ fed-by _ _ _ _ s _ (c .before .before .event .given .1), laid-by _ _ _ _ s _ (c .before .before .event .given .1) _)
 
 same-length : tie.Need-same-length
 same-length c = search needs
@@ -77,7 +78,7 @@ inside-frame-spec =
     enum-told
     going-requires
     enum-known-event
-    with-byte-requires
+    array-write-kept
     going-requires-2
     enum-told-2
     lay-requires
