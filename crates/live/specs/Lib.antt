@@ -6,3 +6,4 @@ pub mod Heard
 pub mod Refused
 pub mod Asking
 pub mod Whole
+pub mod Anyhow

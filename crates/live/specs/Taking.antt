@@ -132,8 +132,8 @@ module _ (ws : List ℕ) (w : ℕ) (v : Live) (xs : List Outcome) (was : Reached
         reached = reached-on ws w was;
         counts = subst (λ (n : ℕ). Counts n (goesOnWith v m' kept' .places)) (sym (long ws w)) (counts-on k (v .places) (v .places .from) o at-k fits);
         rest = hears m' kept' refl opens-on
-        (rw (long ws w, first-next (decides (on ws w) o) (o + 1) k (omega (arith, before .opened)), none-before, d))
-        (subst (λ (n : ℕ). Before (on ws w) o n m' kept') (sym (long ws w)) b);
+            (rw (long ws w, first-next (decides (on ws w) o) (o + 1) k (omega (arith, before .opened)), none-before, d))
+            (subst (λ (n : ℕ). Before (on ws w) o n m' kept') (sym (long ws w)) b);
       }
 
   -- The frame ends with the interval: what is decided is told, and the next frame may open.

@@ -55,7 +55,7 @@ hears-all (w ∷ ws) done xs v h fits =
 
     go : {exit : List ℕ} → Takes done xs w (replicate mostBytes 0) exit (fedOf v w mostBytes)
         → ((ys : List Outcome) → Hears (done ++ (w ∷ [])) ys (fedOf v w mostBytes .live)
-            → Tells ((done ++ (w ∷ [])) ++ ws) ys (afterAll (fedOf v w mostBytes .live) ws) (toldAll (fedOf v w mostBytes .live) ws))
+        → Tells ((done ++ (w ∷ [])) ++ ws) ys (afterAll (fedOf v w mostBytes .live) ws) (toldAll (fedOf v w mostBytes .live) ws))
         → Tells (done ++ (w ∷ ws)) xs (afterAll (fedOf v w mostBytes .live) ws) (toldBy (fedOf v w mostBytes .heard) ++ toldAll (fedOf v w mostBytes .live) ws)
     go (decides-nothing t e k) on =
         let r = on xs k in

@@ -1,0 +1,68 @@
+-- Whatever a reader's bytes are, also such as no call has left there: a frame that it tells of has at most twelve bytes.
+use Prim.Native.Nat.{ℕ, _+_, _-_, _≤_}
+use mathlib.Core.Path.{_≡_, refl}
+use mathlib.Core.Bool.{Bool, true, false, cond, not}
+use native.Mathlib.Omega.{arith}
+use lib.Dec.{eqb, leb, ltb}
+use borrow.Author.Tests.{leb-true}
+use Rattle.framing.specs.Faults.{mostBytes}
+use Rattle.machine.specs.declared.Phase.{Phase}
+use Rattle.machine.specs.declared.Phase.the-variants.{Sof, Main, Normalization, Plain, Checked}
+use Rattle.machine.specs.declared.parts.Parts.{Parts}
+use Rattle.machine.specs.declared.Machine.{Machine}
+use Rattle.machine.specs.declared.Event.{Event}
+use Rattle.machine.specs.declared.Event.the-variants.{Going, Byte, Closed, Faulty as FaultyEvent}
+use Rattle.machine.specs.Parts.{partsIn, partsOf}
+use Rattle.live.specs.declared.Inside.{Inside}
+use Rattle.live.specs.declared.Live.{Live}
+use Rattle.live.specs.declared.Heard.{Heard}
+use Rattle.live.specs.declared.Heard.the-variants.{Nothing, Frame, Faulty, PastPlaces, FewLentBytes}
+use Rattle.live.specs.declared.Fed.{Fed}
+use Rattle.live.specs.Feeding.{least, heldBy, fedBy, stepAt, endsAt, waiting, takenOf, fedOf}
+
+-- how many bytes an answer tells of
+abbrev pub bytesTold : Heard → ℕ
+bytesTold Nothing = 0
+bytesTold (Frame lengths response opening next) = lengths .main + lengths .response
+bytesTold (Faulty fault next) = 0
+bytesTold PastPlaces = 0
+bytesTold FewLentBytes = 0
+
+at-most : (a b : ℕ) → least a b ≤ b
+at-most a b = go (leb a b) refl
+  where
+    go : (t : Bool) → leb a b ≡ t → cond t a b ≤ b
+    go true e = leb-true a b e
+    go false e = omega arith
+
+in-parts : (p : Phase) (m : Machine) → m .began ≤ m .count → partsIn p m .lengths .main + partsIn p m .lengths .response ≤ m .count
+in-parts Sof m h = omega arith
+in-parts Main m h = omega arith
+in-parts Normalization m h = omega arith
+in-parts Plain m h = omega arith
+in-parts Checked m h = omega arith
+
+held-parts : (i : Inside) → partsOf (heldBy i) .lengths .main + partsOf (heldBy i) .lengths .response ≤ mostBytes
+unfolding heldBy
+held-parts i =
+    let few : least (i .count) mostBytes ≤ mostBytes = at-most (i .count) mostBytes in
+    let within : least (i .began) (least (i .count) mostBytes) ≤ least (i .count) mostBytes = at-most (i .began) (least (i .count) mostBytes) in
+    omega (arith, few, in-parts (heldBy i .phase) (heldBy i) within)
+
+by-event : (e : Event) (v : Live) (m : Machine) (b : Bool) → bytesTold (fedBy e v m b .heard) ≤ mostBytes
+by-event Going v m b = omega arith
+by-event (Byte x) v m b = omega arith
+by-event Closed v m b = held-parts (v .inside)
+by-event (FaultyEvent f) v m b = omega arith
+
+-- The lengths that an interval tells never reach past twelve lent bytes.
+pub told-few : (v : Live) (w lent : ℕ) → bytesTold (fedOf v w lent .heard) ≤ mostBytes
+unfolding fedOf takenOf
+told-few v w lent = go (eqb (v .places .full) 0) (ltb lent mostBytes) (eqb (v .inside .phase) 0)
+  where
+    go : (a b c : Bool)
+        → bytesTold (cond (not a) (record { heard = PastPlaces; live = v }) (cond b (record { heard = FewLentBytes; live = v }) (cond c (waiting v w) (fedBy (stepAt v w .event) v (stepAt v w .machine) (endsAt v w)))) .heard) ≤ mostBytes
+    go false b c = omega arith
+    go true true c = omega arith
+    go true false true = omega arith
+    go true false false = by-event (stepAt v w .event) v (stepAt v w .machine) (endsAt v w)
