@@ -11,6 +11,9 @@ pub struct Live {
     frame: Option<(u64, Reader)>,
 }
 
+/// The number of an interval that was heard and decides nothing yet.
+const UNDECIDED: u32 = 63;
+
 fn bare(number: u32, next: u64) -> Heard {
     Heard {
         number,
@@ -38,7 +41,7 @@ fn judge(reader: &mut Reader, opening: u64, place: u64, symbol: Symbol, bytes: &
         return bare(15, place);
     }
     match reader.step(symbol) {
-        Step::Going => bare(63, 0),
+        Step::Going => bare(UNDECIDED, 0),
         Step::Fault(number) => bare(number, place),
         Step::Closed => {
             bytes[..reader.count].copy_from_slice(&reader.bytes[..reader.count]);
@@ -74,10 +77,10 @@ pub fn hear(live: &mut Live, width: u32, bytes: &mut [u8]) -> Heard {
     }
     let symbol = class(place % 2 == 1, width);
     let answer = match &mut live.frame {
-        None => bare(63, 0),
+        None => bare(UNDECIDED, 0),
         Some((opening, reader)) => judge(reader, *opening, place, symbol, bytes),
     };
-    if answer.number != 63 {
+    if answer.number != UNDECIDED {
         live.from = place;
         live.frame = None;
     }

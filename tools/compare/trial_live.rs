@@ -190,7 +190,7 @@ impl Trial {
                 None
             }
         };
-        let known = matches!(answer.number, 0 | 11..=20 | 63);
+        let known = matches!(answer.number, 0 | 11..=20 | other_live::UNDECIDED);
         let right = number.map_or(known, |number| answer == other_live::bare(number, 0));
         let same = hear() == (answer, after, bytes.clone());
         if !right || !same || (after, bytes.clone()) != wanted {
