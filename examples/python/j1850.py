@@ -4,7 +4,7 @@
     line.check_byte(b"\\xff")
 
 Bytes and lists go in, and bytes, lists and the answers' structs come out: each call lends the library memory of its own.
-A refusal is raised as `Refused`, with document 01's number.
+A refusal is raised as `Refused`, with its number.
 """
 import ctypes
 from ctypes import POINTER, Structure, byref, c_bool, c_float, c_size_t, c_uint8, c_uint32, c_uint64
