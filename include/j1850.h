@@ -1,13 +1,15 @@
 /*
- * Sintugapon for C: volts to intervals, reading and writing the frames of SAE J1850 VPW, contests of up to 32 stations on
- * the line, and the text of the support desk.
+ * Sintugapon for C: volts to intervals, reading and writing the frames of SAE J1850 VPW, whole recordings or an interval
+ * at a time, contests of up to 32 stations on the line, and the text of the support desk.
  *
  * Every answer's first field, number, is document 01's number: 0 where the call was done, the number of what reading
- * found, or the number of a refusal (31 to 42, and the desk's own 61). A refusal changes no lent memory, and its other
- * fields are 0. 62, the desk's own too, is its answer to a bad input: a text that tells the line.
+ * found, or the number of a refusal (31 to 42, document 02's 51, and the desk's own 61). A refusal changes no lent memory,
+ * and its other fields are 0. 62, the desk's own too, is its answer to a bad input: a text that tells the line. 63, the
+ * library's own, is no refusal either: an interval was heard that decides nothing yet.
  *
- * A slice is a pointer and then a length in elements; where the length is 0 the pointer may be NULL. Lent memory must not
- * overlap the other arguments. Beyond memory that is there, no call asks anything of its caller: any value has an answer.
+ * A slice is a pointer and then a length in elements; where the length is 0 the pointer may be NULL. A live reader is a
+ * pointer to one, never NULL. Lent memory must not overlap the other arguments. Beyond memory that is there, no call asks
+ * anything of its caller: any value has an answer, and any 64 bytes are a live reader.
  * No call allocates, keeps state between calls or changes anything but the memory lent to it.
  *
  * `tools/library` proves the library and writes libj1850.a and libj1850.so to target/library/.
@@ -66,6 +68,12 @@ typedef struct {
 /* How a place fared in a round: it held no message, its message went out whole, or it had to stop at a bit. */
 enum { J1850_IDLE = 0, J1850_THROUGH = 1, J1850_LOST = 2 };
 
+/* A live reader, which the caller owns and lends to each call: where its recording stands, and the frame that has begun. It
+   has 64 bytes, and none of them is padding. One of zeros has heard nothing. What its words mean is the library's own. */
+typedef struct {
+    uint64_t inner[8];
+} j1850_live;
+
 /* What j1850_desk has to be lent: words, and bytes of text. */
 enum { J1850_DESK_WORDS = 16384, J1850_DESK_TEXT = 442463 };
 
@@ -98,6 +106,21 @@ typedef struct {
     size_t main;     /* 0: how many main bytes stand first in the lent bytes, their check byte included */
     size_t response; /* 0: how many response bytes stand behind them, a checked response's check byte included */
 } j1850_read_answer;
+
+typedef struct {
+    uint32_t number;  /* 0 good frame; 11 to 20 the fault; 63 the interval decides nothing yet; 51, 32 refused */
+    uint32_t kind;    /* 0: J1850_WITHOUT, J1850_PLAIN or J1850_CHECKED; otherwise 0 */
+    uint64_t next;    /* where reading goes on: 0 the closing end; 11 to 20 the interval at fault; otherwise 0 */
+    uint64_t opening; /* 0: where the frame opens; otherwise 0 */
+    size_t main;      /* 0: how many main bytes stand first in the lent bytes, their check byte included */
+    size_t response;  /* 0: how many response bytes stand behind them, a checked response's check byte included */
+} j1850_heard_answer;
+
+typedef struct {
+    uint32_t number;  /* 1 quiet; 2 unfinished */
+    uint64_t next;    /* where reading goes on: 1 the place of the last answer, 0 before the first one; 2 the opening */
+    uint64_t opening; /* 2: where the frame opens; otherwise 0 */
+} j1850_asked_answer;
 
 typedef struct {
     uint32_t number; /* 0, or the number of the refusal */
@@ -149,6 +172,19 @@ j1850_count_answer j1850_write(j1850_clock clock, const uint8_t *main_bytes, siz
    first that applies: 31 a position past the recording's length; 32 under 12 lent bytes. */
 j1850_read_answer j1850_read(const uint32_t *intervals, size_t intervals_length, size_t from, uint8_t *bytes,
                              size_t bytes_length);
+
+/* A live reader that has heard nothing: all zeros. */
+j1850_live j1850_live_start(void);
+
+/* Hears the next interval of a recording, of this width in microseconds: the first is passive, the next active, and so on.
+   The frames and faults, with their places, are those of j1850_read on the whole recording from 0 on, each told at the
+   interval that decides it: a frame at its closing end, a fault at the interval at fault. Only number 0 writes to the lent
+   bytes, and these need not be the same ones from call to call. Refusals, the first that applies: 51 an interval behind
+   place 2^64 - 1; 32 under 12 lent bytes, on any interval. A refused interval is not heard. */
+j1850_heard_answer j1850_hear(j1850_live *live, uint32_t width, uint8_t *bytes, size_t length);
+
+/* How reading the intervals heard so far ends: quiet or unfinished. */
+j1850_asked_answer j1850_ask(const j1850_live *live);
 
 /* Loads a message of 1 to 11 bytes, without its check byte, into the empty station at a place of the row, from 0 on: its
    bytes stand first and its length is set. Refusals, the first that applies: 38 a row of 0 or over 32 stations; 39 a

@@ -1,16 +1,20 @@
 /*
- * Every call of the library, from C. It reads a recording, writes a message, plays a contest of three stations and prints
- * the desk's text; examples/expected.txt is what it prints.
+ * Every call of the library, from C. It reads a recording, whole and an interval at a time, writes a message, plays a contest
+ * of three stations and prints the desk's text; examples/expected.txt is what it prints.
  *
  *   cc -std=c11 -I include examples/c/example.c target/library/libj1850.a -o example && ./example examples/truck.txt
  */
 #include "j1850.h"
 
+#include <inttypes.h>
 #include <stdio.h>
 #include <stdlib.h>
 #include <string.h>
 
 static const j1850_clock nominal = {64, 128, 200};
+
+/* The number of an interval that was heard and decides nothing yet. */
+enum { UNDECIDED = 63 };
 
 static void put_bytes(const uint8_t *bytes, size_t length) {
     for (size_t i = 0; i < length; i++)
@@ -54,16 +58,22 @@ static size_t widths_of(const uint8_t *text, uint32_t *widths, size_t most) {
     return count;
 }
 
+/* The bytes of a frame, that stand first in the lent ones. */
+static void put_frame(const uint8_t *bytes, size_t main_length, uint32_t kind, size_t response_length) {
+    printf("frame");
+    put_bytes(bytes, main_length);
+    if (kind != J1850_WITHOUT) {
+        printf(kind == J1850_PLAIN ? ", plain response" : ", checked response");
+        put_bytes(bytes + main_length, response_length);
+    }
+}
+
 /* One answer of reading, with the bytes that were lent to it. */
 static void put_answer(j1850_read_answer answer, const uint8_t *bytes) {
     switch (answer.number) {
     case 0:
-        printf("  at %zu: frame", answer.opening);
-        put_bytes(bytes, answer.main);
-        if (answer.kind != J1850_WITHOUT) {
-            printf(answer.kind == J1850_PLAIN ? ", plain response" : ", checked response");
-            put_bytes(bytes + answer.main, answer.response);
-        }
+        printf("  at %zu: ", answer.opening);
+        put_frame(bytes, answer.main, answer.kind, answer.response);
         printf("\n");
         break;
     case 1:
@@ -94,10 +104,8 @@ static void small_calls(void) {
     put_words(words, intervals.count);
 }
 
-static void reading(const uint8_t *text) {
-    static uint32_t widths[J1850_DESK_WORDS];
+static void reading(const uint32_t *widths, size_t count) {
     uint8_t bytes[12];
-    size_t count = widths_of(text, widths, J1850_DESK_WORDS);
     j1850_read_answer answer = {0};
 
     printf("The recording has %zu intervals\n", count);
@@ -105,6 +113,33 @@ static void reading(const uint8_t *text) {
         answer = j1850_read(widths, count, answer.next, bytes, sizeof bytes);
         put_answer(answer, bytes);
     } while (answer.number != 1 && answer.number != 2);
+}
+
+static void put_asked(j1850_asked_answer answer) {
+    if (answer.number == 1)
+        printf("  asked: quiet from %" PRIu64 "\n", answer.next);
+    else
+        printf("  asked: unfinished since %" PRIu64 "\n", answer.opening);
+}
+
+/* The same recording as a truck sends it: each interval is heard when it comes, and most decide nothing. */
+static void hearing(const uint32_t *widths, size_t count) {
+    uint8_t bytes[12];
+    j1850_live live = j1850_live_start();
+
+    printf("The same intervals, heard one by one:\n");
+    put_asked(j1850_ask(&live));
+    for (size_t i = 0; i < count; i++) {
+        j1850_heard_answer answer = j1850_hear(&live, widths[i], bytes, sizeof bytes);
+        if (answer.number == 0) {
+            printf("  %" PRIu64 " closes what opened at %" PRIu64 ": ", answer.next, answer.opening);
+            put_frame(bytes, answer.main, answer.kind, answer.response);
+            printf("\n");
+        } else if (answer.number != UNDECIDED) {
+            printf("  %" PRIu64 " is at fault: %u\n", answer.next, (unsigned)answer.number);
+        }
+    }
+    put_asked(j1850_ask(&live));
 }
 
 static void writing(void) {
@@ -192,14 +227,17 @@ static void desk(const uint8_t *input, size_t length) {
 }
 
 int main(int count, char **arguments) {
+    static uint32_t widths[J1850_DESK_WORDS];
     size_t length = 0;
     if (count != 2) {
         fprintf(stderr, "usage: example RECORDING\n");
         return 1;
     }
     uint8_t *input = file_bytes(arguments[1], &length);
+    size_t intervals = widths_of(input, widths, J1850_DESK_WORDS);
     small_calls();
-    reading(input);
+    reading(widths, intervals);
+    hearing(widths, intervals);
     writing();
     contest();
     desk(input, length);

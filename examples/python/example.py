@@ -1,5 +1,5 @@
-"""Every call of the library, from Python: reads a recording, writes a message, plays a contest of three stations and prints
-the desk's text. examples/expected.txt is what it prints.
+"""Every call of the library, from Python: reads a recording, whole and an interval at a time, writes a message, plays a contest
+of three stations and prints the desk's text. examples/expected.txt is what it prints.
 
     python3 examples/python/example.py target/library/libj1850.so examples/truck.txt
 """
@@ -16,11 +16,16 @@ def words_of(words):
     return "".join(f" {word}" for word in words)
 
 
+def frame(answer, main, response):
+    """The bytes of a frame."""
+    kind = {j1850.WITHOUT: "", j1850.PLAIN: ", plain response", j1850.CHECKED: ", checked response"}[answer.kind]
+    return f"frame{spaced(main)}{kind}{spaced(response)}"
+
+
 def told(answer, main, response):
     """One answer of reading."""
     if answer.number == 0:
-        kind = {j1850.WITHOUT: "", j1850.PLAIN: ", plain response", j1850.CHECKED: ", checked response"}[answer.kind]
-        return f"  at {answer.opening}: frame{spaced(main)}{kind}{spaced(response)}"
+        return f"  at {answer.opening}: {frame(answer, main, response)}"
     if answer.number == 1:
         return f"  from {answer.next}: quiet"
     if answer.number == 2:
@@ -38,8 +43,7 @@ def small_calls(line):
     print(f"The samples 0 7 3 3 1 at the usual gate are the intervals{words_of(intervals)}")
 
 
-def reading(line, text):
-    widths = [int(row[3:]) for row in text.decode().splitlines() if row.startswith("iv\t")]
+def reading(line, widths):
     print(f"The recording has {len(widths)} intervals")
     position = 0
     while True:
@@ -48,6 +52,26 @@ def reading(line, text):
         if answer.number in (1, 2):
             return
         position = answer.next
+
+
+def asked(line, live):
+    answer = line.ask(live)
+    if answer.number == 1:
+        return f"  asked: quiet from {answer.next}"
+    return f"  asked: unfinished since {answer.opening}"
+
+
+def hearing(line, widths):
+    """The same recording as a truck sends it: each interval is heard when it comes, and most decide nothing."""
+    live = line.live_start()
+    print(f"The same intervals, heard one by one:\n{asked(line, live)}")
+    for width in widths:
+        answer, main, response = line.hear(live, width)
+        if answer.number == 0:
+            print(f"  {answer.next} closes what opened at {answer.opening}: {frame(answer, main, response)}")
+        elif answer.number != j1850.UNDECIDED:
+            print(f"  {answer.next} is at fault: {answer.number}")
+    print(asked(line, live))
 
 
 def writing(line):
@@ -104,8 +128,10 @@ def desk(line, data):
 def main():
     line = j1850.Library(sys.argv[1])
     data = open(sys.argv[2], "rb").read()
+    widths = [int(row[3:]) for row in data.decode().splitlines() if row.startswith("iv\t")]
     small_calls(line)
-    reading(line, data)
+    reading(line, widths)
+    hearing(line, widths)
     writing(line)
     contest(line)
     desk(line, data)

@@ -4,14 +4,15 @@
     line.check_byte(b"\\xff")
 
 Bytes and lists go in, and bytes, lists and the answers' structs come out: each call lends the library memory of its own.
-A refusal is raised as `Refused`, with document 01's number.
+A refusal is raised as `Refused`, with its number.
 """
 import ctypes
-from ctypes import POINTER, Structure, c_bool, c_float, c_size_t, c_uint8, c_uint32
+from ctypes import POINTER, Structure, byref, c_bool, c_float, c_size_t, c_uint8, c_uint32, c_uint64
 
 NOISE, BIT_0, BIT_1, EOD, SOF, EOF, IFS, BREAK, STUCK = range(9)
 WITHOUT, PLAIN, CHECKED = range(3)
 IDLE, THROUGH, LOST = range(3)
+UNDECIDED = 63
 DESK_WORDS, DESK_TEXT = 16384, 442463
 
 
@@ -35,6 +36,12 @@ class Station(Structure):
     _fields_ = [("clock", Clock), ("bytes", c_uint8 * 11), ("length", c_uint8)]
 
 
+class Live(Structure):
+    """A live reader, changed in place by each interval that it hears."""
+
+    _fields_ = [("inner", c_uint64 * 8)]
+
+
 class CheckAnswer(Structure):
     _fields_ = [("number", c_uint32), ("check", c_uint8)]
 
@@ -53,6 +60,14 @@ class CountAnswer(Structure):
 
 class ReadAnswer(Structure):
     _fields_ = [("number", c_uint32), ("kind", c_uint32), ("next", c_size_t), ("opening", c_size_t), ("main", c_size_t), ("response", c_size_t)]
+
+
+class HeardAnswer(Structure):
+    _fields_ = [("number", c_uint32), ("kind", c_uint32), ("next", c_uint64), ("opening", c_uint64), ("main", c_size_t), ("response", c_size_t)]
+
+
+class AskedAnswer(Structure):
+    _fields_ = [("number", c_uint32), ("next", c_uint64), ("opening", c_uint64)]
 
 
 class CallAnswer(Structure):
@@ -83,6 +98,9 @@ CALLS = {
     "intervals": (CountAnswer, [Gate] + slice_of(c_float) + slice_of(c_uint32)),
     "write": (CountAnswer, [Clock] + slice_of(c_uint8) + [c_uint32] + slice_of(c_uint8) + slice_of(c_uint32)),
     "read": (ReadAnswer, slice_of(c_uint32) + [c_size_t] + slice_of(c_uint8)),
+    "live_start": (Live, []),
+    "hear": (HeardAnswer, [POINTER(Live), c_uint32] + slice_of(c_uint8)),
+    "ask": (AskedAnswer, [POINTER(Live)]),
     "load": (CallAnswer, slice_of(Station) + [c_size_t] + slice_of(c_uint8)),
     "withdraw": (CallAnswer, slice_of(Station) + [c_size_t]),
     "set_clock": (CallAnswer, slice_of(Station) + [c_size_t, Clock]),
@@ -116,57 +134,72 @@ class Library:
             call.restype, call.argtypes = answer, arguments
         self.library = library
 
-    def ask(self, name, *arguments, fine=(0,)):
+    def call(self, name, *arguments, fine=(0,)):
         answer = getattr(self.library, "j1850_" + name)(*arguments)
         if answer.number not in fine:
             raise Refused(answer.number)
         return answer
 
     def check_byte(self, data):
-        return self.ask("check_byte", *lent(c_uint8, data)).check
+        return self.call("check_byte", *lent(c_uint8, data)).check
 
     def symbol(self, active, width):
-        return self.ask("class", active, width).symbol
+        return self.call("class", active, width).symbol
 
     def good_clock(self, clock):
-        return self.ask("good_clock", clock).good
+        return self.call("good_clock", clock).good
 
     def intervals(self, gate, samples):
         """The intervals of a trace."""
         words, count = room(c_uint32, len(samples) + 1)
-        answer = self.ask("intervals", gate, *lent(c_float, samples), words, count)
+        answer = self.call("intervals", gate, *lent(c_float, samples), words, count)
         return words[: answer.count]
 
     def write(self, clock, main, kind=WITHOUT, response=b""):
         """The intervals of a message's frame."""
         words, count = room(c_uint32, 101)
-        answer = self.ask("write", clock, *lent(c_uint8, main), kind, *lent(c_uint8, response), words, count)
+        answer = self.call("write", clock, *lent(c_uint8, main), kind, *lent(c_uint8, response), words, count)
         return words[: answer.count]
 
     def read(self, intervals, position):
         """The answer, the main bytes and the response bytes."""
         data, count = room(c_uint8, 12)
-        answer = self.ask("read", *lent(c_uint32, intervals), position, data, count, fine=(0, 1, 2, *range(11, 21)))
+        answer = self.call("read", *lent(c_uint32, intervals), position, data, count, fine=(0, 1, 2, *range(11, 21)))
         main = bytes(data[: answer.main])
         return answer, main, bytes(data[answer.main : answer.main + answer.response])
 
+    def live_start(self):
+        """A live reader that has heard nothing."""
+        return self.library.j1850_live_start()
+
+    def hear(self, live, width):
+        """The answer to the next interval, whose number is UNDECIDED where it decides nothing, the main bytes and the response bytes."""
+        data, count = room(c_uint8, 12)
+        answer = self.call("hear", byref(live), width, data, count, fine=(0, UNDECIDED, *range(11, 21)))
+        main = bytes(data[: answer.main])
+        return answer, main, bytes(data[answer.main : answer.main + answer.response])
+
+    def ask(self, live):
+        """How reading what was heard so far ends: 1 quiet, 2 unfinished."""
+        return self.call("ask", byref(live), fine=(1, 2))
+
     def load(self, row, place, message):
-        self.ask("load", row, len(row), place, *lent(c_uint8, message))
+        self.call("load", row, len(row), place, *lent(c_uint8, message))
 
     def withdraw(self, row, place):
-        self.ask("withdraw", row, len(row), place)
+        self.call("withdraw", row, len(row), place)
 
     def set_clock(self, row, place, clock):
-        self.ask("set_clock", row, len(row), place, clock)
+        self.call("set_clock", row, len(row), place, clock)
 
     def round(self, row):
         """The answer, and the intervals of the line."""
         words, count = room(c_uint32, 101)
-        answer = self.ask("round", row, len(row), words, count)
+        answer = self.call("round", row, len(row), words, count)
         return answer, words[: answer.words]
 
     def desk(self, data):
         """The answer, whose number is 0 or 62, and the text."""
         words, text = room(c_uint32, DESK_WORDS), room(c_uint8, DESK_TEXT)
-        answer = self.ask("desk", *lent(c_uint8, data), *words, *text, fine=(0, 62))
+        answer = self.call("desk", *lent(c_uint8, data), *words, *text, fine=(0, 62))
         return answer, bytes(text[0][: answer.length])

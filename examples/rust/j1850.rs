@@ -1,5 +1,6 @@
-//! The library's calls for Rust, safe: slices go in and out as slices, and a refusal is an `Err` with document 01's number.
-//! include/j1850.h says what each call takes and answers. Copy this file into a crate and link libj1850.a:
+//! The library's calls for Rust, safe: slices go in and out as slices, and a refusal is an `Err` with its number.
+//! include/j1850.h says what each call takes and answers. Copy this file and the folder of its name into a crate and link
+//! libj1850.a:
 //!
 //!   rustc -L target/library -l static=j1850 main.rs
 
@@ -66,6 +67,26 @@ pub enum Read<'a> {
     Fault { number: u32, next: usize },
 }
 
+/// A live reader, lent to each call: where its recording stands, and the frame that has begun.
+#[repr(C)]
+#[derive(Clone, Copy)]
+pub struct Live {
+    inner: [u64; 8],
+}
+
+/// What an interval that a live reader hears decides, most often nothing. The bytes of a frame stand in the lent bytes.
+pub enum Heard<'a> {
+    Nothing,
+    Frame { opening: u64, next: u64, main: &'a [u8], response: Response<'a> },
+    Fault { number: u32, next: u64 },
+}
+
+/// How reading what a live reader has heard so far ends.
+pub enum Asked {
+    Quiet { next: u64 },
+    Unfinished { opening: u64 },
+}
+
 /// How a place fared in a round.
 #[derive(Clone, Copy)]
 pub enum Verdict {
@@ -91,84 +112,7 @@ pub enum Desk<'a> {
 pub const DESK_WORDS: usize = 16_384;
 pub const DESK_TEXT: usize = 442_463;
 
-mod library {
-    use super::{Clock, Gate, Station};
-
-    #[repr(C)]
-    pub struct Check {
-        pub number: u32,
-        pub check: u8,
-    }
-
-    #[repr(C)]
-    pub struct Class {
-        pub number: u32,
-        pub symbol: u32,
-    }
-
-    #[repr(C)]
-    pub struct Timed {
-        pub number: u32,
-        pub good: bool,
-    }
-
-    #[repr(C)]
-    pub struct Counted {
-        pub number: u32,
-        pub count: usize,
-    }
-
-    #[repr(C)]
-    pub struct Read {
-        pub number: u32,
-        pub kind: u32,
-        pub next: usize,
-        pub opening: usize,
-        pub main: usize,
-        pub response: usize,
-    }
-
-    #[repr(C)]
-    pub struct Called {
-        pub number: u32,
-    }
-
-    #[repr(C)]
-    #[derive(Clone, Copy)]
-    pub struct Verdict {
-        pub fared: u32,
-        pub bit: usize,
-    }
-
-    #[repr(C)]
-    pub struct Round {
-        pub number: u32,
-        pub line_time: u32,
-        pub words: usize,
-        pub verdicts: [Verdict; 32],
-    }
-
-    #[repr(C)]
-    pub struct Desk {
-        pub number: u32,
-        pub line: usize,
-        pub length: usize,
-    }
-
-    extern "C" {
-        pub fn j1850_check_byte(bytes: *const u8, length: usize) -> Check;
-        pub fn j1850_class(active: bool, width: u32) -> Class;
-        pub fn j1850_good_clock(clock: Clock) -> Timed;
-        pub fn j1850_intervals(gate: Gate, samples: *const f32, samples_length: usize, words: *mut u32, words_length: usize) -> Counted;
-        pub fn j1850_write(clock: Clock, main: *const u8, main_length: usize, kind: u32, response: *const u8, response_length: usize, words: *mut u32, words_length: usize) -> Counted;
-        pub fn j1850_read(intervals: *const u32, intervals_length: usize, from: usize, bytes: *mut u8, bytes_length: usize) -> Read;
-        pub fn j1850_load(row: *mut Station, row_length: usize, place: usize, message: *const u8, message_length: usize) -> Called;
-        pub fn j1850_withdraw(row: *mut Station, row_length: usize, place: usize) -> Called;
-        pub fn j1850_set_clock(row: *mut Station, row_length: usize, place: usize, clock: Clock) -> Called;
-        pub fn j1850_round(row: *mut Station, row_length: usize, words: *mut u32, words_length: usize) -> Round;
-        pub fn j1850_desk(input: *const u8, input_length: usize, words: *mut u32, words_length: usize, text: *mut u8, text_length: usize) -> Desk;
-    }
-}
+mod library;
 
 // Each call below hands over slices that Rust lends for the length of the call, and the library touches nothing else.
 
@@ -211,12 +155,7 @@ pub fn read<'a>(intervals: &[u32], from: usize, bytes: &'a mut [u8]) -> Result<R
     let answer = unsafe { library::j1850_read(intervals.as_ptr(), intervals.len(), from, bytes.as_mut_ptr(), bytes.len()) };
     Ok(match answer.number {
         0 => {
-            let (main, rest) = bytes.split_at(answer.main);
-            let response = match answer.kind {
-                1 => Response::Plain(&rest[..answer.response]),
-                2 => Response::Checked(&rest[..answer.response]),
-                _ => Response::Without,
-            };
+            let (main, response) = parts(bytes, answer.main, answer.kind, answer.response);
             Read::Frame { opening: answer.opening, next: answer.next, main, response }
         }
         1 => Read::Quiet { next: answer.next },
@@ -224,6 +163,34 @@ pub fn read<'a>(intervals: &[u32], from: usize, bytes: &'a mut [u8]) -> Result<R
         number @ 11..=20 => Read::Fault { number, next: answer.next },
         refused => return Err(refused),
     })
+}
+
+/// A live reader that has heard nothing.
+pub fn live_start() -> Live {
+    unsafe { library::j1850_live_start() }
+}
+
+/// Hears the next interval of a recording.
+pub fn hear<'a>(live: &mut Live, width: u32, bytes: &'a mut [u8]) -> Result<Heard<'a>, u32> {
+    let answer = unsafe { library::j1850_hear(live, width, bytes.as_mut_ptr(), bytes.len()) };
+    Ok(match answer.number {
+        0 => {
+            let (main, response) = parts(bytes, answer.main, answer.kind, answer.response);
+            Heard::Frame { opening: answer.opening, next: answer.next, main, response }
+        }
+        63 => Heard::Nothing,
+        number @ 11..=20 => Heard::Fault { number, next: answer.next },
+        refused => return Err(refused),
+    })
+}
+
+/// How reading what was heard so far ends.
+pub fn ask(live: &Live) -> Asked {
+    let answer = unsafe { library::j1850_ask(live) };
+    match answer.number {
+        1 => Asked::Quiet { next: answer.next },
+        _ => Asked::Unfinished { opening: answer.opening },
+    }
 }
 
 /// Loads a message into the station at a place.
@@ -260,6 +227,17 @@ pub fn desk<'a>(input: &[u8], words: &mut [u32], text: &'a mut [u8]) -> Result<D
         62 => Ok(Desk::Refused { line: answer.line, text: &text[..answer.length] }),
         refused => Err(refused),
     }
+}
+
+/// The main bytes and the response that stand first in the lent bytes.
+fn parts(bytes: &[u8], main: usize, kind: u32, response: usize) -> (&[u8], Response<'_>) {
+    let (main, rest) = bytes.split_at(main);
+    let response = match kind {
+        1 => Response::Plain(&rest[..response]),
+        2 => Response::Checked(&rest[..response]),
+        _ => Response::Without,
+    };
+    (main, response)
 }
 
 fn done(number: u32) -> Result<(), u32> {

@@ -1,11 +1,11 @@
-//! Every call of the library, from Rust: reads a recording, writes a message, plays a contest of three stations and prints
-//! the desk's text. examples/expected.txt is what it prints.
+//! Every call of the library, from Rust: reads a recording, whole and an interval at a time, writes a message, plays a contest
+//! of three stations and prints the desk's text. examples/expected.txt is what it prints.
 //!
 //!   rustc --edition 2021 -L target/library -l static=j1850 examples/rust/main.rs -o example && ./example examples/truck.txt
 
 mod j1850;
 
-use j1850::{Clock, Desk, Gate, Read, Response, Station, Symbol, Verdict, DESK_TEXT, DESK_WORDS, NOMINAL};
+use j1850::{Asked, Clock, Desk, Gate, Heard, Live, Read, Response, Station, Symbol, Verdict, DESK_TEXT, DESK_WORDS, NOMINAL};
 
 fn hex(bytes: &[u8]) -> String {
     bytes.iter().map(|b| format!(" {b:02X}")).collect()
@@ -15,17 +15,20 @@ fn list(words: &[u32]) -> String {
     words.iter().map(|w| format!(" {w}")).collect()
 }
 
+/// The bytes of a frame.
+fn frame(main: &[u8], response: &Response) -> String {
+    let response = match response {
+        Response::Without => String::new(),
+        Response::Plain(bytes) => format!(", plain response{}", hex(bytes)),
+        Response::Checked(bytes) => format!(", checked response{}", hex(bytes)),
+    };
+    format!("frame{}{response}", hex(main))
+}
+
 /// One answer of reading.
 fn told(answer: &Read) -> String {
     match answer {
-        Read::Frame { opening, main, response, .. } => {
-            let response = match response {
-                Response::Without => String::new(),
-                Response::Plain(bytes) => format!(", plain response{}", hex(bytes)),
-                Response::Checked(bytes) => format!(", checked response{}", hex(bytes)),
-            };
-            format!("  at {opening}: frame{}{response}", hex(main))
-        }
+        Read::Frame { opening, main, response, .. } => format!("  at {opening}: {}", frame(main, response)),
         Read::Quiet { next } => format!("  from {next}: quiet"),
         Read::Unfinished { opening } => format!("  at {opening}: unfinished"),
         Read::Fault { number, next } => format!("  at {next}: fault {number}"),
@@ -46,19 +49,41 @@ fn small_calls() -> Result<(), u32> {
     Ok(())
 }
 
-fn reading(input: &str) -> Result<(), u32> {
-    let widths: Vec<u32> = input.lines().filter_map(|l| l.strip_prefix("iv\t")?.parse().ok()).collect();
+fn reading(widths: &[u32]) -> Result<(), u32> {
     println!("The recording has {} intervals", widths.len());
     let mut from = 0;
     loop {
         let mut bytes = [0; 12];
-        let answer = j1850::read(&widths, from, &mut bytes)?;
+        let answer = j1850::read(widths, from, &mut bytes)?;
         println!("{}", told(&answer));
         match answer {
             Read::Frame { next, .. } | Read::Fault { next, .. } => from = next,
             _ => return Ok(()),
         }
     }
+}
+
+fn asked(live: &Live) -> String {
+    match j1850::ask(live) {
+        Asked::Quiet { next } => format!("  asked: quiet from {next}"),
+        Asked::Unfinished { opening } => format!("  asked: unfinished since {opening}"),
+    }
+}
+
+/// The same recording as a truck sends it: each interval is heard when it comes, and most decide nothing.
+fn hearing(widths: &[u32]) -> Result<(), u32> {
+    let mut live = j1850::live_start();
+    println!("The same intervals, heard one by one:\n{}", asked(&live));
+    for width in widths {
+        let mut bytes = [0; 12];
+        match j1850::hear(&mut live, *width, &mut bytes)? {
+            Heard::Nothing => {}
+            Heard::Frame { opening, next, main, response } => println!("  {next} closes what opened at {opening}: {}", frame(main, &response)),
+            Heard::Fault { number, next } => println!("  {next} is at fault: {number}"),
+        }
+    }
+    println!("{}", asked(&live));
+    Ok(())
 }
 
 fn writing() -> Result<(), u32> {
@@ -133,8 +158,10 @@ fn desk(input: &[u8]) -> Result<(), u32> {
 }
 
 fn all(input: &str) -> Result<(), u32> {
+    let widths: Vec<u32> = input.lines().filter_map(|l| l.strip_prefix("iv\t")?.parse().ok()).collect();
     small_calls()?;
-    reading(input)?;
+    reading(&widths)?;
+    hearing(&widths)?;
     writing()?;
     contest()?;
     desk(input.as_bytes())

@@ -1,9 +1,9 @@
 //! The jobs on a trace, on messages and on recordings.
 
 use crate::job::{job, Job};
-use crate::ours::{self, Clock, Counted, Gate, Read};
+use crate::ours::{self, Asked, Clock, Counted, Gate, Heard, Read};
 use crate::random::Random;
-use crate::{lines, plain, plain_reading};
+use crate::{lines, plain, plain_live, plain_reading};
 use std::cell::RefCell;
 use std::hint::black_box;
 
@@ -106,6 +106,24 @@ fn read_pass(read: Reads, intervals: &[u32]) -> usize {
     }
 }
 
+/// Hears a recording interval by interval, and asks at its end.
+fn hear_pass<L>(
+    mut live: L,
+    hear: fn(&mut L, u32, &mut [u8]) -> Heard,
+    ask: fn(&L) -> Asked,
+    intervals: &[u32],
+) -> usize {
+    let mut bytes = [0; 12];
+    let mut sum = 0;
+    for width in black_box(intervals) {
+        let answer = hear(&mut live, *width, &mut bytes);
+        sum = sum * 31 + answer.next as usize + answer.number as usize + answer.main;
+        sum = (sum + usize::from(bytes[0])) % (1 << 40);
+    }
+    let asked = ask(&live);
+    sum + asked.next as usize + asked.number as usize
+}
+
 pub fn jobs() -> Vec<Job> {
     let words = RefCell::new(vec![0; LONGEST + 1]);
     let all = messages();
@@ -150,5 +168,18 @@ pub fn jobs() -> Vec<Job> {
             },
         ));
     }
+    found.push(job(
+        format!("live-{LONGEST}"),
+        "interval",
+        LONGEST,
+        recording(LONGEST),
+        |proved, line| {
+            if proved {
+                hear_pass(ours::live_start(), ours::hear, ours::ask, line)
+            } else {
+                hear_pass(plain_live::start(), plain_live::hear, plain_live::ask, line)
+            }
+        },
+    ));
     found
 }

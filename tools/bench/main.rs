@@ -1,5 +1,5 @@
 //! Measures the proved library beside the same jobs written straight down in Rust (plain.rs, plain_reading.rs,
-//! plain_round.rs), in one process.
+//! plain_live.rs, plain_round.rs), in one process.
 //!
 //!     bench                     times: the two in turn, many rounds, medians and their ratio
 //!     bench JOB WHO TIMES       does a job so often and nothing else, for counting instructions; WHO is proved or plain
@@ -16,6 +16,7 @@ mod lines;
 #[path = "../compare/ours.rs"]
 mod ours;
 mod plain;
+mod plain_live;
 mod plain_reading;
 mod plain_round;
 #[allow(dead_code)]

@@ -4,7 +4,7 @@ use crate::ours::Read;
 use crate::plain::check_step;
 
 #[derive(Clone, Copy, PartialEq)]
-enum Symbol {
+pub enum Symbol {
     Noise,
     Bit(bool),
     SofOrEod,
@@ -13,7 +13,7 @@ enum Symbol {
     Stuck,
 }
 
-fn class(active: bool, width: u32) -> Symbol {
+pub fn class(active: bool, width: u32) -> Symbol {
     match width {
         0..=34 => Symbol::Noise,
         35..=96 => Symbol::Bit(active),
@@ -26,7 +26,7 @@ fn class(active: bool, width: u32) -> Symbol {
 }
 
 #[derive(Clone, Copy, PartialEq)]
-enum Phase {
+pub enum Phase {
     Sof,
     Main,
     Normalization,
@@ -34,24 +34,24 @@ enum Phase {
     Checked,
 }
 
-struct Reader {
-    phase: Phase,
+pub struct Reader {
+    pub phase: Phase,
     bits: u8,
     byte: u8,
-    count: usize,
-    began: usize,
+    pub count: usize,
+    pub began: usize,
     register: u8,
-    bytes: [u8; 12],
+    pub bytes: [u8; 12],
 }
 
-enum Step {
+pub enum Step {
     Going,
     Closed,
     Fault(u32),
 }
 
 impl Reader {
-    fn new() -> Reader {
+    pub fn new() -> Reader {
         Reader {
             phase: Phase::Sof,
             bits: 0,
@@ -92,7 +92,7 @@ impl Reader {
         }
     }
 
-    fn step(&mut self, symbol: Symbol) -> Step {
+    pub fn step(&mut self, symbol: Symbol) -> Step {
         match (symbol, self.phase) {
             (Symbol::Noise, _) => Step::Fault(11),
             (Symbol::Stuck, _) => Step::Fault(14),

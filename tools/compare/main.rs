@@ -7,7 +7,7 @@
 //!     compare SEED alone VARIANT   histories of such a variant without the library: it has to end with status 1
 //!     compare empty                no case at all: it has to end with status 3
 //!
-//! Status 0: all agreed and every answer of document 01 occurred; 1: a difference, which is printed; 2: a wrong command
+//! Status 0: all agreed and every answer of the documents occurred; 1: a difference, which is printed; 2: a wrong command
 //! line; 3: an answer occurred too seldom.
 
 #[allow(dead_code)]
@@ -19,7 +19,11 @@ mod check;
 mod desk_cases;
 mod histories;
 mod lines;
+#[path = "../second/live.rs"]
+mod live;
+mod live_cases;
 mod other;
+mod other_live;
 mod other_row;
 mod ours;
 mod random;
@@ -38,6 +42,7 @@ mod tally;
 mod text;
 mod trial;
 mod trial_desk;
+mod trial_live;
 mod trial_row;
 #[allow(dead_code)]
 #[path = "../second/volts.rs"]
@@ -119,6 +124,9 @@ fn run(trial: &mut Trial, part: Part, times: usize) {
     if has(Part::Reading) {
         reading_cases::edges(trial);
     }
+    if has(Part::Live) {
+        live_cases::edges(trial);
+    }
     if has(Part::Row) {
         row_cases::edges(trial);
     }
@@ -130,12 +138,13 @@ fn run(trial: &mut Trial, part: Part, times: usize) {
         volts_cases::random(trial, 20_000);
         writing_cases::random(trial, 20_000);
         reading_cases::random(trial, 40_000);
+        live_cases::random(trial, 6_000);
         histories::random(trial, 300);
         desk_cases::random(trial, 1_000);
     }
 }
 
-/// Tells how often each answer occurred, and fails where one of document 01's is missing.
+/// Tells how often each answer occurred, and fails where one of the documents' is missing.
 fn finish(trial: &Trial) {
     println!("compare: {} calls agree", trial.tally.total());
     print!("  how often each answer occurred:");

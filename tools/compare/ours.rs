@@ -55,6 +55,32 @@ pub struct Read {
     pub response: usize,
 }
 
+/// A live reader. What its words mean is the library's own.
+#[repr(C)]
+#[derive(Clone, Copy, PartialEq, Debug)]
+pub struct Live {
+    pub inner: [u64; 8],
+}
+
+#[repr(C)]
+#[derive(Clone, Copy, PartialEq, Debug)]
+pub struct Heard {
+    pub number: u32,
+    pub kind: u32,
+    pub next: u64,
+    pub opening: u64,
+    pub main: usize,
+    pub response: usize,
+}
+
+#[repr(C)]
+#[derive(Clone, Copy, PartialEq, Debug)]
+pub struct Asked {
+    pub number: u32,
+    pub next: u64,
+    pub opening: u64,
+}
+
 /// A station of a row: its clock and its stored bytes, of which the first `length` are the message it holds.
 #[repr(C)]
 #[derive(Clone, Copy, PartialEq, Debug)]
@@ -96,7 +122,10 @@ pub struct Desk {
 }
 
 mod library {
-    use super::{Called, Check, Class, Clock, Counted, Desk, Gate, Read, Round, Station, Timed};
+    use super::{
+        Asked, Called, Check, Class, Clock, Counted, Desk, Gate, Heard, Live, Read, Round, Station,
+        Timed,
+    };
 
     #[link(name = "j1850", kind = "static")]
     extern "C" {
@@ -127,6 +156,9 @@ mod library {
             bytes: *mut u8,
             bytes_length: usize,
         ) -> Read;
+        pub fn j1850_live_start() -> Live;
+        pub fn j1850_hear(live: *mut Live, width: u32, bytes: *mut u8, length: usize) -> Heard;
+        pub fn j1850_ask(live: *const Live) -> Asked;
         pub fn j1850_load(
             row: *mut Station,
             row_length: usize,
@@ -204,6 +236,18 @@ pub fn write(clock: Clock, main: &[u8], kind: u32, response: &[u8], words: &mut 
 pub fn read(intervals: &[u32], from: usize, bytes: &mut [u8]) -> Read {
     let (first, count) = (pointer(intervals), intervals.len());
     unsafe { library::j1850_read(first, count, from, lent(bytes), bytes.len()) }
+}
+
+pub fn live_start() -> Live {
+    unsafe { library::j1850_live_start() }
+}
+
+pub fn hear(live: &mut Live, width: u32, bytes: &mut [u8]) -> Heard {
+    unsafe { library::j1850_hear(live, width, lent(bytes), bytes.len()) }
+}
+
+pub fn ask(live: &Live) -> Asked {
+    unsafe { library::j1850_ask(live) }
 }
 
 pub fn load(row: &mut [Station], place: usize, message: &[u8]) -> Called {

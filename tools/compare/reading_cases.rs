@@ -6,10 +6,10 @@ use crate::ours::Clock;
 use crate::trial::Trial;
 use crate::writing_cases::NOMINAL;
 
-const LONGEST: usize = 16_384;
+pub const LONGEST: usize = 16_384;
 
 /// Main bytes, response kind and response bytes of frames of every kind, the shortest and the longest among them.
-const SHAPES: [(usize, u32, usize); 11] = [
+pub const SHAPES: [(usize, u32, usize); 11] = [
     (1, 0, 0),
     (2, 0, 0),
     (11, 0, 0),
@@ -24,9 +24,9 @@ const SHAPES: [(usize, u32, usize); 11] = [
 ];
 
 /// One width of each window at least, for recordings of several intervals that are tried in every combination.
-const FEW: [u32; 11] = [0, 34, 35, 96, 97, 163, 164, 239, 240, 999_999, 1_000_000];
+pub const FEW: [u32; 11] = [0, 34, 35, 96, 97, 163, 164, 239, 240, 999_999, 1_000_000];
 
-fn frame(trial: &mut Trial, clock: Clock, shape: (usize, u32, usize)) -> Vec<u32> {
+pub fn frame(trial: &mut Trial, clock: Clock, shape: (usize, u32, usize)) -> Vec<u32> {
     let (main, kind, response) = shape;
     let bytes = trial.random.bytes(main + response);
     trial.write(clock, &bytes[..main], kind, &bytes[main..], 101)

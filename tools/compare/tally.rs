@@ -1,15 +1,21 @@
-//! How often each answer occurred, and which of document 01's answers have to.
+//! How often each answer occurred, and which of the documents' answers have to.
 
 use std::collections::BTreeMap;
 
-/// The calls that have more than one number to answer, with every number that document 01 has for them, and the desk's.
-const ANSWERS: [(&str, &[u32]); 8] = [
+/// The calls that have more than one number to answer, with every number that documents 01 and 02 have for them, and the
+/// library's own.
+const ANSWERS: [(&str, &[u32]); 10] = [
     ("intervals", &[0, 32, 33, 34, 35]),
     ("write", &[0, 32, 36, 37]),
     (
         "read",
         &[0, 1, 2, 11, 12, 13, 14, 15, 16, 17, 18, 19, 20, 31, 32],
     ),
+    (
+        "hear",
+        &[0, 11, 12, 13, 14, 15, 16, 17, 18, 19, 20, 32, 51, 63],
+    ),
+    ("ask", &[1, 2]),
     ("load", &[0, 37, 38, 39, 40, 41]),
     ("withdraw", &[0, 38, 39, 40, 42]),
     ("set clock", &[0, 36, 38, 39, 40]),
@@ -29,8 +35,10 @@ const CARRIED: [(&str, &[u32]); 4] = [
     ("desk response", &[0, 1, 2]),
 ];
 
-/// The refusals of calls on a row that can apply at once, the earlier first. 40 leaves no station for 41 or 42.
-const COMPETING: [(&str, &[(u32, u32)]); 4] = [
+/// The refusals of calls on a row or a live reader that can apply at once, the earlier first. 40 leaves no station for 41
+/// or 42.
+const COMPETING: [(&str, &[(u32, u32)]); 5] = [
+    ("hear", &[(51, 32)]),
     (
         "load",
         &[
@@ -120,12 +128,12 @@ impl Tally {
         print!("  what answers carried:");
         print(&self.carried);
         println!(
-            "  pairs of refusals that competed on a row: {}",
+            "  pairs of refusals that competed on a row or a live reader: {}",
             self.competed.len()
         );
     }
 
-    /// The answers of document 01 that occurred too seldom.
+    /// The answers of the documents that occurred too seldom.
     pub fn missing(&self) -> Vec<String> {
         let mut found = seldom(&self.answers, &ANSWERS);
         found.extend(seldom(&self.carried, &CARRIED));

@@ -1,6 +1,8 @@
 //! Deliberately wrong variants of the second program, each with one rule altered. A run against any of them has to find a
 //! difference: a comparison that could not fail would show nothing.
 
+#[path = "wrong_live.rs"]
+pub mod live;
 #[path = "wrong_reading.rs"]
 pub mod reading;
 #[path = "wrong_round.rs"]
@@ -22,6 +24,7 @@ pub enum Part {
     Volts,
     Writing,
     Reading,
+    Live,
     Row,
     Text,
 }
@@ -101,6 +104,31 @@ variants! {
         ElevenBytesEnough "11-lent-bytes-enough"
         ReadPastCleared "byte-past-the-frame-cleared"
         FaultWrites "fault-writes"
+    }
+
+    Live {
+        LiveClosingSwallowed "live-closing-end-swallowed"
+        LiveFaultyEndSwallowed "live-end-at-fault-does-not-open"
+        LiveActiveAsPassive "live-level-does-not-alternate"
+        LivePlacesIn32 "live-places-in-32-bits"
+        LiveFrameAtClosing "live-frame-at-its-closing"
+        LiveFaultAtOpening "live-fault-at-its-opening"
+        LiveUndecidedIsQuiet "live-undecided-told-as-quiet"
+        LiveBytesEarly "live-bytes-written-before-the-closing"
+        LivePastCleared "live-byte-past-the-frame-cleared"
+        LiveFaultWrites "live-fault-writes"
+        LiveElevenEnough "live-11-lent-bytes-enough"
+        LiveLentAtClosing "live-32-judged-at-the-closing-alone"
+        LiveLentFirst "live-32-before-51"
+        LiveLastRefused "live-last-place-refused"
+        LivePastTaken "live-interval-past-the-last-heard"
+        LiveRefusedHeard "live-refused-interval-heard"
+        LiveRefusedForgets "live-refused-interval-ends-the-frame"
+        LiveRefusalWrites "live-refusal-writes"
+        LiveQuietForUnfinished "live-quiet-for-unfinished"
+        LiveUnfinishedAtOnce "live-unfinished-with-the-opening-last"
+        LiveQuietAtNext "live-quiet-goes-on-at-the-next-interval"
+        LiveAskingForgets "live-asking-ends-the-frame"
     }
 
     Row {

@@ -114,6 +114,53 @@ static void frames(unsigned times) {
     trial((job){.which = READ, .lent = {in(line, 110, 4), out(bytes, 12, 1)}});
 }
 
+/* A frame with a checked response and one interval replaced, so that each fault but the thirteenth byte's is met; the number
+   of its words. */
+static size_t harmed_frame(uint32_t *at, size_t which) {
+    static const struct {
+        size_t place; /* from the opening on */
+        uint32_t width;
+    } harms[] = {{1, 64}, {3, 34}, {3, 240}, {3, 1000000}, {3, 200}, {4, 300}, {10, 300}, {2, 128}, {52, 200}};
+    const uint8_t message[] = {0x08, 0xFF, 0x10};
+    const uint8_t response[] = {0x28};
+    uint32_t frame[101];
+    j1850_count_answer r = j1850_write((j1850_clock){64, 128, 200}, message, 3, J1850_CHECKED, response, 1, frame, 101);
+    if (which < sizeof harms / sizeof *harms)
+        frame[harms[which].place] = harms[which].width;
+    memcpy(at, frame, r.count * sizeof *at);
+    return r.count;
+}
+
+/* A recording heard interval by interval, with questions in between. */
+static void heard(j1850_live reader, const uint32_t *line, size_t count) {
+    static const size_t lent_bytes[] = {0, 11, 12, 12, 12, 13};
+    uint8_t enough[12];
+    for (size_t i = 0; i < count; i++) {
+        trial((job){.which = HEAR, .number = line[i], .lent = {out(&reader, 1, sizeof reader), out(bytes, ONE_OF(lent_bytes), 1)}});
+        trial((job){.which = HEAR, .number = line[i], .lent = {out(&reader, 1, sizeof reader), out(bytes, 12, 1)}});
+        trial((job){.which = ASK, .lent = {in(&reader, 1, sizeof reader)}});
+        j1850_hear(&reader, line[i], enough, sizeof enough);
+    }
+}
+
+static void live(unsigned times) {
+    uint32_t line[700];
+    trial((job){.which = LIVE_START});
+    for (size_t i = 0; i < 110; i++) /* thirteen bytes: no writer makes them */
+        line[i] = i == 0 ? 300 : i == 1 ? 200 : 64;
+    heard(j1850_live_start(), line, 110);
+    for (unsigned i = 0; i < times; i++) {
+        j1850_live reader = j1850_live_start();
+        size_t count = harmed_frame(line, i % 10);
+        count += some_frame(line + count);
+        if (i > 10 && any(4) == 0) /* any words are a reader */
+            some_bytes((uint8_t *)&reader, any(2) ? 24 : sizeof reader);
+        if (i == 10 || (i > 10 && any(8) == 0)) /* the last place there is comes next */
+            reader.inner[0] = UINT64_MAX;
+        heard(reader, line, count);
+    }
+}
+
 static void rows(unsigned times) {
     static const size_t counts[] = {0, 1, 2, 3, 31, 32, 33};
     static const size_t lent_words[] = {0, 100, 101, 101, 101, 102};
@@ -169,6 +216,7 @@ void all_cases(unsigned times, const uint8_t *recording, size_t length) {
     small_calls(200 * times);
     volts(100 * times);
     frames(400 * times);
+    live(10 * times);
     rows(400 * times);
     desk(10 + times, recording, length);
 }

@@ -1,7 +1,7 @@
 /*
  * The guard: see guard.h, and tools/guard/run for how it is run.
  *
- *   guard RECORDING TIMES    the cases, so many times the random ones; fails where an answer of document 01 never occurred
+ *   guard RECORDING TIMES    the cases, so many times the random ones; fails where an answer of the documents never occurred
  *   guard wrong NAME         a deliberately wrong call, which has to be caught
  */
 #define _GNU_SOURCE
@@ -19,6 +19,7 @@ enum { PAGE = 4096, ARENA = 128 * PAGE, SLACK = 512, ARENAS = 3, SAID = 80, PATT
 /* the layout that the library was built with */
 _Static_assert(sizeof(j1850_station) == 24 && offsetof(j1850_station, bytes) == 12 && offsetof(j1850_station, length) == 23, "a station");
 _Static_assert(sizeof(j1850_verdict) == 16 && offsetof(j1850_round_answer, verdicts) == 16 && sizeof(j1850_round_answer) == 528, "a round's answer");
+_Static_assert(sizeof(j1850_live) == 64 && sizeof(j1850_heard_answer) == 40 && sizeof(j1850_asked_answer) == 24, "a live reader and its answers");
 
 unsigned long tally[CALLS][64];
 
@@ -81,6 +82,23 @@ static size_t say(const job *j, void *at[3], uint64_t *said) {
         j1850_read_answer r = j1850_read(at[0], s[0].count, j->place, at[1], s[1].count);
         said[n++] = r.number, said[n++] = r.kind, said[n++] = r.next;
         said[n++] = r.opening, said[n++] = r.main, said[n++] = r.response;
+        break;
+    }
+    case LIVE_START: {
+        j1850_live r = j1850_live_start();
+        for (said[n++] = 0; n <= 8; n++)
+            said[n] = r.inner[n - 1];
+        break;
+    }
+    case HEAR: {
+        j1850_heard_answer r = j1850_hear(at[0], j->number, at[1], s[1].count);
+        said[n++] = r.number, said[n++] = r.kind, said[n++] = r.next;
+        said[n++] = r.opening, said[n++] = r.main, said[n++] = r.response;
+        break;
+    }
+    case ASK: {
+        j1850_asked_answer r = j1850_ask(at[0]);
+        said[n++] = r.number, said[n++] = r.next, said[n++] = r.opening;
         break;
     }
     case LOAD:
@@ -170,7 +188,7 @@ void trial(job wanted) {
         free(exact[i]);
 }
 
-/* Every number of document 01 that a call can answer, and the desk's two. */
+/* Every number of the documents that a call can answer, and the library's own. */
 static const struct {
     enum call which;
     const char *name;
@@ -182,6 +200,9 @@ static const struct {
     {INTERVALS, "intervals", {0, 33, 34, 32, 35, -1}},
     {WRITE, "write", {0, 36, 37, 32, -1}},
     {READ, "read", {0, 1, 2, 11, 12, 13, 14, 15, 16, 17, 18, 19, 20, 31, 32, -1}},
+    {LIVE_START, "live start", {0, -1}},
+    {HEAR, "hear", {0, 11, 12, 13, 14, 15, 16, 17, 18, 19, 20, 51, 32, 63, -1}},
+    {ASK, "ask", {1, 2, -1}},
     {LOAD, "load", {0, 38, 39, 40, 37, 41, -1}},
     {WITHDRAW, "withdraw", {0, 38, 39, 40, 42, -1}},
     {SET_CLOCK, "set clock", {0, 38, 39, 40, 36, -1}},
@@ -226,6 +247,9 @@ static int wrong(const char *name) {
     } else if (strcmp(name, "written-input") == 0) { /* what is lent to be read is written */
         void *input = lend(0, (slice){room, 101, sizeof *room, false}, true);
         longest(input, 101);
+    } else if (strcmp(name, "short-reader") == 0) { /* 7 words are lent as a live reader, which has 8 */
+        uint8_t heard[12];
+        j1850_hear(lend(0, (slice){room, 7, sizeof(uint64_t), true}, true), 300, heard, sizeof heard);
     } else if (strcmp(name, "beside") == 0) { /* the word past the lent ones can be touched, and is seen to be written */
         void *at = lend(0, words, false);
         longest(at, 101);

@@ -7,7 +7,7 @@
 
 #include "j1850.h"
 
-enum call { CHECK_BYTE, CLASS, GOOD_CLOCK, INTERVALS, WRITE, READ, LOAD, WITHDRAW, SET_CLOCK, ROUND, DESK, CALLS };
+enum call { CHECK_BYTE, CLASS, GOOD_CLOCK, INTERVALS, WRITE, READ, LIVE_START, HEAR, ASK, LOAD, WITHDRAW, SET_CLOCK, ROUND, DESK, CALLS };
 
 /* Something lent: elements of one size, that the call may only read, or may also write. */
 typedef struct {

@@ -38,7 +38,7 @@ fn twelve(after: &[u32]) -> Vec<u32> {
 }
 
 /// Recordings that begin with a frame's opening at 0: the number and the next position.
-fn fault_cases() -> Vec<(Vec<u32>, u32, usize)> {
+pub fn fault_cases() -> Vec<(Vec<u32>, u32, usize)> {
     let plain = [200, 64];
     let checked = [200, 128];
     let wrong = [128, 64, 128, 64, 128, 64, 128, 128];

@@ -1,9 +1,11 @@
-//! The second program: document 01 worked again by other methods, to be compared against.
+//! The second program: document 01, and live reading of document 02, worked again by other methods, to be compared against.
 
 mod bench;
 mod bench_trials;
 mod check;
 mod frame_trials;
+mod live;
+mod live_trials;
 mod reading;
 mod self_test;
 mod symbol;

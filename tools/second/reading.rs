@@ -160,7 +160,7 @@ const RULES: [Rule; 10] = [
 ];
 
 /// The first end at an even place at or after p.
-fn opening_from(recording: &[u32], p: usize) -> Option<usize> {
+pub fn opening_from(recording: &[u32], p: usize) -> Option<usize> {
     (p..recording.len()).find(|i| classify(Level::of_place(*i), recording[*i]).is_end())
 }
 
@@ -178,6 +178,26 @@ fn take_frame(look: &Look, lent: &mut [u8]) -> Frame {
     }
 }
 
+/// What a place of the frame that begins at an opening decides: a fault, the good frame, or nothing.
+/// It is for a place before which nothing is decided.
+pub fn decided(recording: &[u32], opening: usize, place: usize, lent: &mut [u8]) -> Option<Answer> {
+    let look = Look {
+        recording,
+        opening,
+        place,
+    };
+    let answer = |number, frame| Answer {
+        number,
+        next: place,
+        frame,
+    };
+    match look.fault() {
+        Some(number) => Some(answer(number, None)),
+        None if look.closes() => Some(answer(0, Some(take_frame(&look, lent)))),
+        None => None,
+    }
+}
+
 /// Reads from position p; answers one of the numbers 0 to 20, or a refusal.
 pub fn read(recording: &[u32], p: usize, lent: &mut [u8]) -> Result<Answer, u32> {
     if p > recording.len() {
@@ -186,27 +206,16 @@ pub fn read(recording: &[u32], p: usize, lent: &mut [u8]) -> Result<Answer, u32>
     if lent.len() < MOST_BYTES {
         return Err(32);
     }
-    let answer = |number, next, frame| Answer {
+    let bare = |number, next| Answer {
         number,
         next,
-        frame,
+        frame: None,
     };
     let opening = match opening_from(recording, p) {
         Some(opening) if opening + 1 < recording.len() => opening,
-        _ => return Ok(answer(1, p, None)),
+        _ => return Ok(bare(1, p)),
     };
-    let look_at = |place| Look {
-        recording,
-        opening,
-        place,
-    };
-    let decides = |look: &Look| look.fault().is_some() || look.closes();
-    let decisive = (opening + 1..recording.len()).map(look_at).find(decides);
-    Ok(match decisive {
-        None => answer(2, opening, None),
-        Some(look) => match look.fault() {
-            Some(number) => answer(number, look.place, None),
-            None => answer(0, look.place, Some(take_frame(&look, lent))),
-        },
-    })
+    let mut places = opening + 1..recording.len();
+    let answer = places.find_map(|place| decided(recording, opening, place, lent));
+    Ok(answer.unwrap_or(bare(2, opening)))
 }

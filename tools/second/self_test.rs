@@ -4,7 +4,7 @@ use crate::check::{check, register, with_check};
 use crate::symbol::{classify, good_clock, sent, Class, Clock, Level, NOMINAL};
 use crate::text::desk;
 use crate::volts::{intervals, Gate, MOST_SAMPLES, USUAL};
-use crate::{bench_trials, frame_trials};
+use crate::{bench_trials, frame_trials, live_trials};
 
 /// What a run of trials gives: nothing more, or the name of the first wrong case.
 pub type Trial = Result<(), String>;
@@ -281,6 +281,7 @@ pub fn self_test() -> Result<usize, String> {
         volts,
         desk_lines,
         frame_trials::trials,
+        live_trials::trials,
         bench_trials::trials,
     ];
     for part in parts {
