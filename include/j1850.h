@@ -69,7 +69,8 @@ typedef struct {
 enum { J1850_IDLE = 0, J1850_THROUGH = 1, J1850_LOST = 2 };
 
 /* A live reader, which the caller owns and lends to each call: where its recording stands, and the frame that has begun. It
-   has 64 bytes, and none of them is padding. One of zeros has heard nothing. What its words mean is the library's own. */
+   has 64 bytes, and none of them is padding. One of zeros has heard nothing. What its words mean is the library's own;
+   whatever they are, no answer tells of more than 12 bytes. */
 typedef struct {
     uint64_t inner[8];
 } j1850_live;

@@ -168,8 +168,8 @@ impl Trial {
         }
     }
 
-    /// A reader of any words: there is an answer, it is the same again, and nothing but the reader and the first 12 lent
-    /// bytes changes. Answers the reader afterwards.
+    /// A reader of any words: there is an answer, it is the same again, it tells of no more than 12 bytes, and nothing but
+    /// the reader and the first 12 lent bytes changes. Answers the reader afterwards.
     pub fn hear_anything(&mut self, live: Live, width: u32, lent: usize) -> Live {
         let before = self.bytes(lent);
         let room = self.room(live);
@@ -191,7 +191,8 @@ impl Trial {
             }
         };
         let known = matches!(answer.number, 0 | 11..=20 | other_live::UNDECIDED);
-        let right = number.map_or(known, |number| answer == other_live::bare(number, 0));
+        let few = answer.main <= 12 && answer.response <= 12 - answer.main;
+        let right = few && number.map_or(known, |number| answer == other_live::bare(number, 0));
         let same = hear() == (answer, after, bytes.clone());
         if !right || !same || (after, bytes.clone()) != wanted {
             let case = [
