@@ -63,7 +63,7 @@ pub struct Desk {
 }
 
 // The numbers of the kinds of response.
-const WITHOUT: u32 = 0;
+pub const WITHOUT: u32 = 0;
 
 const PLAIN: u32 = 1;
 
@@ -72,13 +72,13 @@ pub const CHECKED: u32 = 2;
 // Document 01's numbers: for a call that was done, for what reading answers besides faults, and for each refusal.
 pub const DONE: u32 = 0;
 
-const QUIET: u32 = 1;
+pub const QUIET: u32 = 1;
 
-const UNFINISHED: u32 = 2;
+pub const UNFINISHED: u32 = 2;
 
 const PAST_RECORDING: u32 = 31;
 
-const FEW_LENT: u32 = 32;
+pub const FEW_LENT: u32 = 32;
 
 const MANY_SAMPLES: u32 = 33;
 

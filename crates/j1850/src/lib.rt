@@ -2,6 +2,8 @@
 // to the room that does the work and gives that room's answer as numbers, document 01's number first.
 mod answers;
 mod contests;
+mod heard;
+mod hearing;
 mod row;
 
 ghost use mathlib.Core.Path.{_≡_};
