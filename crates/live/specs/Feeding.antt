@@ -1,6 +1,6 @@
 -- One interval more for a live reader, as the code takes it: document 02, request 1. What it has to do with reading the
 -- whole recording is shown in Whole.antt.
-use Prim.Native.Nat.{ℕ, _+_, _-_, _%_}
+use Prim.Native.Nat.{ℕ, _+_}
 use mathlib.Core.Bool.{Bool, true, false, cond, not}
 use mathlib.Core.List.{List, _++_}
 use lib.Dec.{eqb, leb, ltb}
