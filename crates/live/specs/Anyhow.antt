@@ -8,7 +8,6 @@ use borrow.Author.Tests.{leb-true}
 use Rattle.framing.specs.Faults.{mostBytes}
 use Rattle.machine.specs.declared.Phase.{Phase}
 use Rattle.machine.specs.declared.Phase.the-variants.{Sof, Main, Normalization, Plain, Checked}
-use Rattle.machine.specs.declared.parts.Parts.{Parts}
 use Rattle.machine.specs.declared.Machine.{Machine}
 use Rattle.machine.specs.declared.Event.{Event}
 use Rattle.machine.specs.declared.Event.the-variants.{Going, Byte, Closed, Faulty as FaultyEvent}
@@ -17,7 +16,6 @@ use Rattle.live.specs.declared.Inside.{Inside}
 use Rattle.live.specs.declared.Live.{Live}
 use Rattle.live.specs.declared.Heard.{Heard}
 use Rattle.live.specs.declared.Heard.the-variants.{Nothing, Frame, Faulty, PastPlaces, FewLentBytes}
-use Rattle.live.specs.declared.Fed.{Fed}
 use Rattle.live.specs.Feeding.{least, heldBy, fedBy, stepAt, endsAt, waiting, takenOf, fedOf}
 
 -- how many bytes an answer tells of

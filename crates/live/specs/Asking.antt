@@ -20,7 +20,6 @@ use Rattle.framing.specs.Answers.{tells}
 use Rattle.framing.specs.Outcomes.{goesOn}
 use Rattle.machine.specs.declared.Machine.{Machine}
 use Rattle.machine.specs.Holding.{phaseOf, holding}
-use Rattle.machine.specs.Following.{Before}
 use Rattle.live.specs.declared.Inside.{Inside}
 use Rattle.live.specs.declared.Live.{Live}
 use Rattle.live.specs.Feeding.{phaseNumber, insideOf, outside, askedOf}

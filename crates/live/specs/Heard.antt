@@ -1,35 +1,23 @@
 -- What a reader that has heard intervals answers to the next one, refusals included, and when it is asked.
-use Prim.Native.Nat.{ℕ, _+_, _≤_, _<_}
-use mathlib.Core.Path.{_≡_, refl, sym, ap, subst, _∙_}
-use mathlib.Core.Bool.{Bool, true, false, cond}
-use mathlib.Core.List.{List, [], _∷_}
-use mathlib.Core.Logic.{_⊎_, inl, inr, _↔_}
+use Prim.Native.Nat.{ℕ, _≤_}
+use mathlib.Core.Path.{_≡_, refl, sym, ap, _∙_}
+use mathlib.Core.Bool.{true, false}
+use mathlib.Core.List.{List, []}
 use native.Mathlib.Omega.{arith}
-use native.Mathlib.Nat.{eq-or-lt-of-le}
-use lib.Dec.{eqb, ltb}
+use lib.Dec.{eqb}
 use lib.ListN.{length, replicate}
-use borrow.Author.Tests.{lt-ltb, le-ltb, le-leb, lt-leb, eq-eqb, ne-eqb}
-use Rattle.symbol.specs.Classes.{classOf, endOf}
-use Rattle.laws.specs.Tests.{never}
-use Rattle.framing.specs.Line.{activeAt, symbolAt, endAt, Found, nowhere, at, first, opening}
-use Rattle.framing.specs.Standing.{Standing, atSof, stands, standsBy}
+use borrow.Author.Tests.{le-ltb, eq-eqb}
+use Rattle.symbol.specs.Classes.{endOf}
+use Rattle.framing.specs.Line.{activeAt, first, opening}
 use Rattle.framing.specs.Faults.{mostBytes}
-use Rattle.framing.specs.Reading.{Outcome, decidedBy, reading}
-use Rattle.framing.specs.Answers.{Told, tells}
-use Rattle.framing.specs.Outcomes.{goesOn}
+use Rattle.framing.specs.Reading.{Outcome}
 use Rattle.machine.specs.declared.Phase.{Phase}
 use Rattle.machine.specs.declared.Phase.the-variants.{Sof, Main, Normalization, Plain, Checked}
 use Rattle.machine.specs.declared.Machine.{Machine}
-use Rattle.machine.specs.declared.Stepped.{Stepped}
-use Rattle.machine.specs.Steps.{stepOf}
-use Rattle.machine.specs.Holding.{phaseOf, holding}
-use Rattle.machine.specs.Following.{Before, says-by}
 use Rattle.live.specs.declared.Inside.{Inside}
 use Rattle.live.specs.declared.Live.{Live}
-use Rattle.live.specs.declared.Heard.the-variants.{PastPlaces, FewLentBytes}
-use Rattle.live.specs.declared.Fed.{Fed}
-use Rattle.live.specs.Feeding.{lastPlace, phaseNumber, heldBy, insideOf, outside, started, fedBy, stepAt, endsAt, takenOf, fedOf, laidBy, lentOf, askedOf}
-use Rattle.live.specs.Hearing.{askedTold, none-yet, Counts, room, all-heard, Rest, seeks, hears, Hears, Takes, decides-nothing}
+use Rattle.live.specs.Feeding.{lastPlace, phaseNumber, insideOf, outside, started, endsAt, takenOf, fedOf, lentOf}
+use Rattle.live.specs.Hearing.{none-yet, Counts, room, all-heard, Rest, seeks, hears, Hears, Takes, decides-nothing}
 use Rattle.live.specs.Opening.{begins-hears}
 use Rattle.live.specs.Taking.{reached-in, on, long, end-here, reached-on, none-still, takes-next}
 

@@ -12,7 +12,7 @@ use borrow.Author.Tests.{le-leb, eq-eqb, ne-eqb}
 use Rattle.framing.specs.Line.{endAt, nowhere, at, firstIn, opening}
 use Rattle.framing.specs.Faults.{mostBytes}
 use Rattle.framing.specs.Reading.{Outcome, decides}
-use Rattle.framing.specs.FirstLaws.{orAt, first-next, first-empty}
+use Rattle.framing.specs.FirstLaws.{first-next, first-empty}
 use Rattle.machine.specs.declared.Phase.{Phase}
 use Rattle.machine.specs.declared.Phase.the-variants.{Sof, Main, Normalization, Plain, Checked}
 use Rattle.machine.specs.declared.Machine.{Machine}
@@ -20,7 +20,7 @@ use Rattle.machine.specs.Steps.{fresh}
 use Rattle.machine.specs.Following.{Before, at-first}
 use Rattle.live.specs.declared.Places.{Places}
 use Rattle.live.specs.declared.Live.{Live}
-use Rattle.live.specs.Feeding.{lastPlace, phaseNumber, phaseBy, heldBy, insideOf, outside, behind, beginsAnew}
+use Rattle.live.specs.Feeding.{lastPlace, phaseNumber, phaseBy, heldBy, insideOf, behind, beginsAnew}
 use Rattle.live.specs.Hearing.{Reached, Counts, room, all-heard, Rest, seeks, hears, Hears}
 
 -- ## The machine

@@ -4,17 +4,14 @@ use mathlib.Core.Path.{_≡_, refl, sym, ap, subst, _∙_}
 use mathlib.Core.Bool.{Bool, true, false}
 use mathlib.Core.List.{List, [], _∷_, _++_}
 use native.Mathlib.Omega.{arith}
-use lib.Dec.{eqb}
-use lib.ListN.{length, getD, set, take, drop, length-append, List·getD-append}
+use lib.ListN.{length, getD, set, length-append, List·getD-append}
 use lib.Seq.{getD-append-seam}
-use Rattle.symbol.specs.declared.Symbol.{Symbol}
 use Rattle.symbol.specs.Classes.{classOf, endOf}
-use Rattle.framing.specs.declared.Fault.{Fault}
 use Rattle.framing.specs.Line.{activeAt, symbolAt, endAt, Found, nowhere, at, firstIn, opening}
 use Rattle.framing.specs.Standing.{Standing, stands}
 use Rattle.framing.specs.Faults.{mostBytes, facts, mainBytes, responseBytes}
-use Rattle.framing.specs.Reading.{Outcome, good, faulty, faultAt, decides, decidedBy, decided, reading}
-use Rattle.framing.specs.Answers.{faultNumber, tells, lentAfter}
+use Rattle.framing.specs.Reading.{Outcome, good, faulty, decides, decidedBy, reading}
+use Rattle.framing.specs.Answers.{faultNumber}
 use Rattle.framing.specs.FirstLaws.{IsFirst, first-at, first-next, first-empty}
 use Rattle.framing.specs.Outcomes.{Opens, opened-reading, goesOn}
 use Rattle.framing.specs.ReadingOn.{nextOf, progress}
@@ -22,17 +19,14 @@ use Rattle.framing.specs.Longer.{first-same, end-same, stands-same, decides-sam
 use Rattle.machine.specs.declared.Machine.{Machine}
 use Rattle.machine.specs.declared.Event.{Event}
 use Rattle.machine.specs.declared.Event.the-variants.{Going, Byte, Closed, Faulty}
-use Rattle.machine.specs.declared.Stepped.{Stepped}
 use Rattle.machine.specs.Steps.{stepOf}
 use Rattle.machine.specs.Holding.{holding, Kept}
 use Rattle.machine.specs.HoldingLaws.{count-of}
 use Rattle.machine.specs.PartLaws.{parts-held}
 use Rattle.machine.specs.Following.{Before, Says, some-fault, held-few, held-began, says-by}
-use Rattle.live.specs.declared.Places.{Places}
 use Rattle.live.specs.declared.Live.{Live}
-use Rattle.live.specs.declared.Fed.{Fed}
-use Rattle.live.specs.Feeding.{lastPlace, heldBy, insideOf, outside, behind, beginsAnew, goesOn as goesOnWith, fedBy, stepAt, endsAt, laidBy}
-use Rattle.live.specs.Hearing.{toldBy, Reached, none-yet, one-more, Counts, Rest, seeks, hears, Hears, Takes, decides-nothing, decides-one}
+use Rattle.live.specs.Feeding.{lastPlace, heldBy, insideOf, behind, beginsAnew, goesOn as goesOnWith, fedBy, stepAt, endsAt, laidBy}
+use Rattle.live.specs.Hearing.{Reached, none-yet, one-more, Counts, hears, Hears, Takes, decides-nothing, decides-one}
 use Rattle.live.specs.Opening.{held-inside, counts-on, begins-hears}
 
 -- the position from which reading goes on lies in the recording

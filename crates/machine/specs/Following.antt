@@ -5,7 +5,7 @@ use mathlib.Core.Bool.{Bool, true, false}
 use mathlib.Core.List.{List, [], _∷_, _++_}
 use native.Mathlib.Omega.{arith}
 use lib.Dec.{eqb}
-use lib.ListN.{length, take, set, getD, length-append, length-set}
+use lib.ListN.{length, set, getD, length-append, length-set}
 use lib.Seq.{take-suc-set}
 use Rattle.symbol.specs.declared.Symbol.{Symbol}
 use Rattle.symbol.specs.Classes.{ends}
@@ -14,7 +14,7 @@ use Rattle.framing.specs.declared.Fault.{Fault}
 use Rattle.framing.specs.declared.Fault.the-variants.{Noise, NoSof, Break, Stuck, LateSof, SplitByte, FewBytes, WrongCheck, EodAfterResponse, ThirteenthByte}
 use Rattle.framing.specs.Bits.{bytes}
 use Rattle.framing.specs.Line.{activeAt, symbolAt, endAt}
-use Rattle.framing.specs.Standing.{Standing, atSof, stands}
+use Rattle.framing.specs.Standing.{Standing, stands}
 use Rattle.framing.specs.StandingLaws.{after, stands-sof, stands-next}
 use Rattle.framing.specs.Faults.{mostBytes}
 use Rattle.framing.specs.Reading.{faultAt, decides}

@@ -1,5 +1,5 @@
 -- The parts of a frame that closes, by what the machine holds.
-use Prim.Native.Nat.{ℕ, _-_}
+use Prim.Native.Nat.{_-_}
 use Rattle.framing.specs.declared.Response.{Response}
 use Rattle.framing.specs.declared.Response.the-variants.{Without, Plain as PlainResponse, Checked as CheckedResponse}
 use Rattle.machine.specs.declared.Phase.{Phase}

@@ -1,22 +1,19 @@
 -- Each answer of reading tells of the outcome that document 01 gives, from what the search and the machine have shown.
 use Prim.Native.Nat.{ℕ, _+_, _-_, _≤_, _<_}
 use mathlib.Core.Path.{_≡_, refl, ap, _∙_}
-use mathlib.Core.List.{List, _++_, append-nil}
-use native.Mathlib.Omega.{arith}
-use lib.ListN.{length, take, drop, length-append}
+use mathlib.Core.List.{List, _++_}
+use lib.ListN.{length, take, drop}
 use lib.Seq.{take-length, length-take-le}
 use borrow.Author.Tests.{le-leb, lt-leb, lt-ltb, le-ltb}
 use Rattle.framing.specs.declared.Fault.{Fault}
 use Rattle.framing.specs.declared.Reading.{Reading}
 use Rattle.framing.specs.declared.Reading.the-variants.{Quiet, Unfinished, Faulty, PastRecording, FewLentBytes}
-use Rattle.framing.specs.Bits.{bytes}
 use Rattle.framing.specs.Line.{nowhere, at, firstIn, opening}
-use Rattle.framing.specs.Standing.{plain, checked, Standing, atSof, inMain, atNormalization, inResponse, stands}
-use Rattle.framing.specs.Faults.{mostBytes, facts, mainBytes, responseBytes}
+use Rattle.framing.specs.Standing.{stands}
+use Rattle.framing.specs.Faults.{mostBytes}
 use Rattle.framing.specs.Reading.{faultAt, decides, decided, readBy, reading}
 use Rattle.framing.specs.Answers.{faultNumber, ReadPromise}
 use Rattle.machine.specs.declared.Machine.{Machine}
-use Rattle.machine.specs.Holding.{holding}
 use Rattle.machine.specs.HoldingLaws.{count-of}
 use Rattle.machine.specs.Parts.{partsOf}
 use Rattle.machine.specs.PartLaws.{parts-held}

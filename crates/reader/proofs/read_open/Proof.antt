@@ -7,7 +7,7 @@ use native.Mathlib.Omega.{arith}
 use lib.ListN.{length}
 use Rattle.framing.specs.Line.{firstIn, symbolAt}
 use Rattle.framing.specs.Reading.{decides}
-use Rattle.machine.specs.Following.{Before, at-first, held-few, held-began, says-by}
+use Rattle.machine.specs.Following.{Before, at-first, held-few, says-by}
 use Rattle.reader.proofs.Searching.{decides-here, decides-none}
 use Rattle.reader.proofs.Answers.{unfinished-meets, faulty-meets, closed-meets}
 use borrow.Author.Needs.{needs}
