@@ -1,6 +1,6 @@
 -- What the stations bring to a round, as the code keeps it.
 use Prim.Native.Nat.{ℕ, _+_, _*_, _-_}
-use mathlib.Core.Bool.{cond}
+use mathlib.Core.Bool.{Bool, true, false, cond}
 use mathlib.Core.List.{List, _++_, map}
 use lib.ListN.{length, replicate}
 use Rattle.checkbyte.specs.Register.{withCheck}
@@ -19,17 +19,14 @@ countOf s = cond (empty s) 0 (8 * length (withCheck (stored s)))
 unfoldable pub frameOf : Station → List ℕ
 frameOf s = withCheck (stored s) ++ replicate (mostStored - length (stored s)) 0
 
--- a station's short bit
-abbrev pub shortOf : Station → ℕ
-shortOf s = s .clock .short .0
-
--- a station's long bit
-abbrev pub longOf : Station → ℕ
-longOf s = s .clock .long .0
+-- the long bit of a station's clock, or the short one
+abbrev pub widthOf : Bool → Station → ℕ
+widthOf true s = s .clock .long .0
+widthOf false s = s .clock .short .0
 
 -- the lanes of a row
 abbrev pub lanesIn : List Station → Lanes
-lanesIn row = lanesOf (map countOf row) (map frameOf row) (map shortOf row) (map longOf row)
+lanesIn row = lanesOf (map countOf row) (map frameOf row) (map (widthOf false) row) (map (widthOf true) row)
 
 -- the verdicts that the lanes come to
 abbrev pub verdictsAt : List ℕ → List ℕ → List Verdict

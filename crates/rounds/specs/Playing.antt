@@ -21,7 +21,7 @@ use Rattle.contest.specs.Promises.{RoundSaid, played}
 use Rattle.rows.specs.Scan.{from, from-same, from-length, filled, fill-more, fill-all, fold-start, fold-more, fold-all, getD-any}
 use Rattle.rounds.specs.Lanes.{Lanes, lanesOf}
 use Rattle.rounds.specs.Seats.{LanesOk, faresAt}
-use Rattle.rounds.specs.Entries.{countOf, frameOf, shortOf, longOf, lanesIn, verdictsAt}
+use Rattle.rounds.specs.Entries.{countOf, frameOf, widthOf, lanesIn, verdictsAt}
 use Rattle.rounds.specs.Starting.{start-ok, start-seats}
 use Rattle.rounds.specs.Sending.{courseOf, Sent}
 use Rattle.rounds.specs.Rounds.{afterVerdict, afterVerdicts}
@@ -111,7 +111,7 @@ module _ (at : List Station) (n : length at ≡ mostStations) (h : allSound at �
 -- ## The arrays that stand for the lanes
 
 module _ (at : List Station) (counts : List ℕ) (frames : List (List ℕ)) (shorts longs : List ℕ)
-    (a : counts ≡ map countOf at) (b : frames ≡ map frameOf at) (c : shorts ≡ map shortOf at) (d : longs ≡ map longOf at) where
+    (a : counts ≡ map countOf at) (b : frames ≡ map frameOf at) (c : shorts ≡ map (widthOf false) at) (d : longs ≡ map (widthOf true) at) where
   arrays : lanesOf counts frames shorts longs ≡ lanesIn at
   arrays = cc
 

@@ -21,7 +21,7 @@ use Rattle.contest.specs.Contest.{absent, pulsesOf, holder, entryOf, seatOf}
 use Rattle.contest.specs.Calls.{allSound}
 use Rattle.rows.specs.Scan.{from, from-same, from-list}
 use Rattle.rounds.specs.Seats.{LanesOk, clockAt, restAt, seatAt, seatsAt}
-use Rattle.rounds.specs.Entries.{countOf, frameOf, shortOf, longOf, lanesIn}
+use Rattle.rounds.specs.Entries.{countOf, frameOf, widthOf, lanesIn}
 use Rattle.rounds.specs.EntryLaws.{sound-at}
 
 at-map : {B : Type 0} (f : Station → B) (row : List Station) (i : ℕ) (d : B) → i < length row → getD (map f row) i d ≡ f (getD row i blank)
@@ -92,7 +92,7 @@ module _ (row : List Station) (n : length row ≡ mostStations) (h : allSound ro
   unfolding seatAt restAt countOf frameOf
   start-at i k =
       rw (at-map countOf row i 0 (omega arith), at-map frameOf row i [] (omega arith), getD-replicate {A = ℕ} mostStations i 0 0 k)
-      (ap (λ (ps : List Pulse). seat (countOf s) ps) (pulses-same (clockAt (lanesIn row) i) (s .clock) (at-map shortOf row i 0 (omega arith)) (at-map longOf row i 0 (omega arith)) false (take (countOf s) (bitsOf (frameOf s))))
+      (ap (λ (ps : List Pulse). seat (countOf s) ps) (pulses-same (clockAt (lanesIn row) i) (s .clock) (at-map (widthOf false) row i 0 (omega arith)) (at-map (widthOf true) row i 0 (omega arith)) false (take (countOf s) (bitsOf (frameOf s))))
       ∙ go s)
     where
       s : Station

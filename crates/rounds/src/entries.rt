@@ -7,7 +7,7 @@ ghost use mathlib.Core.List.{map};
 ghost use Rattle.contest.specs.Stations.{mostStored};
 ghost use Rattle.contest.specs.Calls.{allSound};
 ghost use Rattle.rounds.specs.Seats.{faredIn};
-ghost use Rattle.rounds.specs.Entries.{countOf, frameOf, shortOf, longOf, verdictsAt};
+ghost use Rattle.rounds.specs.Entries.{countOf, frameOf, widthOf, verdictsAt};
 use contest::Fared;
 use contest::Station;
 use contest::Verdict;
@@ -79,34 +79,26 @@ pub(crate) fn frames(row: [Station; 32]) -> [[u8; 12]; 32]
     all
 }
 
-// The short bit of each station's clock.
-pub(crate) fn shorts(row: [Station; 32]) -> [u32; 32]
-    ensures { λ r. ⌜ r ≡ map shortOf row ⌝ }
+// The short bit of each station's clock, or the long one.
+pub(crate) fn widths(row: [Station; 32], long: bool) -> [u32; 32]
+    ensures { λ r. ⌜ r ≡ map (widthOf long) row ⌝ }
 {
     let mut all: [u32; 32] = [0; 32];
     let mut i = 0;
     while i < MOST_STATIONS {
         let station = row[i];
-        let short = station.clock.short;
-        all[i] = short.0;
+        all[i] = width_of(station, long);
         i += 1;
     }
     all
 }
 
-// The long bit of each station's clock.
-pub(crate) fn longs(row: [Station; 32]) -> [u32; 32]
-    ensures { λ r. ⌜ r ≡ map longOf row ⌝ }
+// The same of one station.
+fn width_of(station: Station, long: bool) -> u32
+    ensures { λ r. ⌜ r ≡ widthOf long station ⌝ }
 {
-    let mut all: [u32; 32] = [0; 32];
-    let mut i = 0;
-    while i < MOST_STATIONS {
-        let station = row[i];
-        let long = station.clock.long;
-        all[i] = long.0;
-        i += 1;
-    }
-    all
+    let clock = station.clock;
+    if long { clock.long.0 } else { clock.short.0 }
 }
 
 // How a place fared, with so many bits to send, that lost there or, at 0, did not.

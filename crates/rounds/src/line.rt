@@ -27,8 +27,8 @@ pub(crate) fn contend(at: [Station; 32], lost: &mut [usize; 32], words: &mut [u3
 {
     let counts = entries::counts(at);
     let frames = entries::frames(at);
-    let shorts = entries::shorts(at);
-    let longs = entries::longs(at);
+    let shorts = entries::widths(at, false);
+    let longs = entries::widths(at, true);
     send_bits(&counts, &frames, &shorts, &longs, lost, words)
 }
 

@@ -4,7 +4,7 @@ use mathlib.Core.Path.{_≡_, refl, sym, ap, _∙_}
 use mathlib.Core.Bool.{false}
 use mathlib.Core.List.{List, [], _∷_, _++_, append-assoc}
 use native.Mathlib.Omega.{arith}
-use lib.ListN.{length, getD, take, set, length-append, length-set}
+use lib.ListN.{length, getD, take, set, length-append}
 use lib.Seq.{sets, length-take-le, take-all, length-sets}
 use Rattle.laws.specs.Lent.{sets-then}
 use Rattle.symbol.specs.declared.Clock.{Clock}
@@ -79,24 +79,6 @@ pub response-laid : (l : List ℕ) (at first mark : ℕ) (ws : List ℕ)
     → sets (sets l at (first ∷ mark ∷ [])) (at + 2) ws ≡ sets l at (first ∷ mark ∷ ws)
 response-laid l at first mark ws = sets-then l at (first ∷ mark ∷ []) ws
 
--- A whole frame: the opening and the SOF, the main part, the response, and the closing end.
-pub frame-laid : (c : Clock) (main : List ℕ) (kind : Response) (rs l : List ℕ)
-    → set (sets (sets (set (set l 0 (endWidth .0)) 1 (c .sof .0)) 2 (byteWidths c (withCheck main))) (2 + 8 * (length main + 1)) (responseWidths c kind rs))
-    (2 + 8 * (length main + 1) + length (responseWidths c kind rs)) (endWidth .0)
-    ≡ sets l 0 (frameWords c main kind rs)
-unfolding frameWords
-frame-laid c main kind rs l =
-    let body : List ℕ = byteWidths c (withCheck main) in
-    let reply : List ℕ = responseWidths c kind rs in
-    let head : List ℕ = sets l 0 (endWidth .0 ∷ c .sof .0 ∷ []) in
-    let n : 2 + 8 * (length main + 1) ≡ 2 + length body = omega (arith, byte-widths-length c (withCheck main), with-check-length main) in
-    ap (λ (k : ℕ). set (sets (sets head 2 body) k reply) (k + length reply) (endWidth .0)) n
-    ∙ ap (λ (ws : List ℕ). set ws (2 + length body + length reply) (endWidth .0)) (sets-then head 2 body reply)
-    ∙ ap (λ (k : ℕ). set (sets head 2 (body ++ reply)) k (endWidth .0)) (omega (arith, length-append body reply))
-    ∙ sets-then head 2 (body ++ reply) (endWidth .0 ∷ [])
-    ∙ ap (λ (ws : List ℕ). sets head 2 ws) (append-assoc body reply (endWidth .0 ∷ []))
-    ∙ sets-then l 0 (endWidth .0 ∷ c .sof .0 ∷ []) (body ++ (reply ++ (endWidth .0 ∷ [])))
-
 -- The words that a response asks for, by its kind.
 pub plain-room : (c : Clock) (kind : Response) (rs : List ℕ) (at n : ℕ) → kind ≡ Plain → at + length (responseWidths c kind rs) ≤ n
     → at + 2 + 8 * length rs ≤ n
@@ -112,28 +94,52 @@ checked-room c kind rs at n e h =
     response-widths-length c kind rs ∙ ap (λ (k : Response). responseWords k (length rs)) e in
     omega arith
 
--- ## Room for a frame, while its parts are laid
+-- ## A frame, while its parts are laid: the room for each, and the whole of them
 
 module _ (c : Clock) (main : List ℕ) (kind : Response) (rs l : List ℕ) (enough : length (frameWords c main kind rs) ≤ length l) where
-  -- the opening, the SOF and the main part have room
-  pub main-room : 2 + 8 * (length main + 1) < length l
-  main-room = omega (arith, frame-words-length c main kind rs)
+  -- the opening and the SOF have room
+  pub head-room : 2 ≤ length l
+  head-room = omega (arith, frame-words-length c main kind rs)
 
-  module _ (m : List ℕ) (eod first sof : ℕ) (at-eod : eod ≡ 2 + 8 * (length main + 1)) (laid : m ≡ sets (set (set l 0 first) 1 sof) 2 (byteWidths c (main ++ (checkFrom allOnes main ∷ [])))) where
-    pub main-long : length m ≡ length l
-    main-long = ap length laid ∙ length-sets (set (set l 0 first) 1 sof) 2 (byteWidths c (main ++ (checkFrom allOnes main ∷ []))) ∙ length-set (set l 0 first) 1 sof ∙ length-set l 0 first
+  module _ (h : List ℕ) (at : ℕ) (at-main : at ≡ 2) (headed : h ≡ sets l 0 (endWidth .0 ∷ c .sof .0 ∷ [])) where
+    head-long : length h ≡ length l
+    head-long = ap length headed ∙ length-sets l 0 (endWidth .0 ∷ c .sof .0 ∷ [])
 
-    -- so has the response behind them
-    pub response-room : eod + length (responseWidths c kind rs) ≤ length m
-    response-room = omega (arith, main-long, frame-words-length c main kind rs, response-widths-length c kind rs)
+    -- so has the main part behind them
+    pub main-room : at + 8 * (length main + 1) ≤ length h
+    main-room = omega (arith, head-long, frame-words-length c main kind rs)
 
-    module _ (n : List ℕ) (closing : ℕ) (at-closing : closing ≡ eod + length (responseWidths c kind rs)) (answered : n ≡ sets m eod (responseWidths c kind rs)) where
-      pub response-long : length n ≡ length l
-      response-long = ap length answered ∙ length-sets m eod (responseWidths c kind rs) ∙ main-long
+    module _ (m : List ℕ) (eod : ℕ) (at-eod : eod ≡ at + 8 * (length main + 1)) (laid : m ≡ sets h at (byteWidths c (main ++ (checkFrom allOnes main ∷ [])))) where
+      main-long : length m ≡ length l
+      main-long = ap length laid ∙ length-sets h at (byteWidths c (main ++ (checkFrom allOnes main ∷ []))) ∙ head-long
 
-      -- and the closing end behind it
-      pub closing-room : closing < length n
-      closing-room = omega (arith, response-long, frame-words-length c main kind rs, response-widths-length c kind rs)
+      -- and the response behind it
+      pub response-room : eod + length (responseWidths c kind rs) ≤ length m
+      response-room = omega (arith, main-long, frame-words-length c main kind rs, response-widths-length c kind rs)
 
-      pub closing-last : closing + 1 ≡ length (frameWords c main kind rs)
-      closing-last = omega (arith, frame-words-length c main kind rs, response-widths-length c kind rs)
+      module _ (n : List ℕ) (closing : ℕ) (at-closing : closing ≡ eod + length (responseWidths c kind rs)) (answered : n ≡ sets m eod (responseWidths c kind rs)) where
+        response-long : length n ≡ length l
+        response-long = ap length answered ∙ length-sets m eod (responseWidths c kind rs) ∙ main-long
+
+        -- and the closing end behind that
+        pub closing-room : closing < length n
+        closing-room = omega (arith, response-long, frame-words-length c main kind rs, response-widths-length c kind rs)
+
+        pub closing-last : closing + 1 ≡ length (frameWords c main kind rs)
+        closing-last = omega (arith, frame-words-length c main kind rs, response-widths-length c kind rs)
+
+        -- the whole frame
+        pub frame-laid : set n closing (endWidth .0) ≡ sets l 0 (frameWords c main kind rs)
+        unfolding frameWords
+        frame-laid =
+            let body : List ℕ = byteWidths c (withCheck main) in
+            let reply : List ℕ = responseWidths c kind rs in
+            let head : List ℕ = endWidth .0 ∷ c .sof .0 ∷ [] in
+            let close : List ℕ = endWidth .0 ∷ [] in
+            let count : length body ≡ 8 * (length main + 1) = byte-widths-length c (withCheck main) ∙ ap (λ (k : ℕ). 8 * k) (with-check-length main) in
+            let at-reply : eod ≡ 0 + length (head ++ body) = omega (arith, length-append head body) in
+            let at-close : closing ≡ 0 + length ((head ++ body) ++ reply) = omega (arith, length-append (head ++ body) reply, length-append head body) in
+            let up-to-body : m ≡ sets l 0 (head ++ body) = laid ∙ rw (headed, at-main) (afresh c main (sets l 0 head) 2 ∙ sets-then l 0 head body) in
+            let up-to-reply : n ≡ sets l 0 ((head ++ body) ++ reply) = answered ∙ rw (up-to-body, at-reply) (sets-then l 0 (head ++ body) reply) in
+            rw (up-to-reply, at-close) (sets-then l 0 ((head ++ body) ++ reply) close)
+            ∙ ap (sets l 0) (append-assoc (head ++ body) reply close)

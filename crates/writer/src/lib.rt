@@ -1,9 +1,9 @@
 // Writing: a message becomes the words of a frame.
-ghost use Prim.Native.Nat.{_+_, _*_, _/_, _≤_};
+ghost use Prim.Native.Nat.{_+_, _*_, _/_, _<_, _≤_};
 ghost use mathlib.Core.Path.{_≡_};
 ghost use mathlib.Core.Bool.{true, false};
 ghost use mathlib.Core.List.{[], _∷_, _++_};
-ghost use lib.ListN.{length};
+ghost use lib.ListN.{length, set};
 ghost use lib.Seq.{sets};
 ghost use lib.Dec.{eqb, ltb, leb};
 ghost use mathlib.Core.Bool.{_||_};
@@ -93,11 +93,10 @@ fn put_frame(clock: Clock, main: &[u8], kind: Response, response: &[u8], lent: &
     ensures { λ _. ⌜ now (lent .exit) ≡ sets (now (lent .entry)) 0 (frameWords clock (now (main .entry)) kind (now (response .entry))) ⌝ }
 {
     let sof = clock.sof;
-    lent[0] = END_WIDTH;
-    lent[1] = sof.0;
-    let eod = put_checked(clock, checkbyte::ALL_ONES, main, lent, 2);
+    let first = put_two(END_WIDTH, sof.0, lent, 0);
+    let eod = put_checked(clock, checkbyte::ALL_ONES, main, lent, first);
     let closing = put_response(clock, kind, response, lent, eod);
-    lent[closing] = END_WIDTH;
+    put(END_WIDTH, lent, closing);
     closing + 1
 }
 
@@ -128,9 +127,7 @@ fn put_eod(clock: Clock, plain: bool, lent: &mut [u32], at: usize) -> usize
 {
     let sof = clock.sof;
     let normalization = symbol::bit_width(clock, true, plain);
-    lent[at] = sof.0;
-    lent[at + 1] = normalization.0;
-    at + 2
+    put_two(sof.0, normalization.0, lent, at)
 }
 
 // Bytes and their check byte, with the register that stands before them: all ones, since each part is checked alone.
@@ -177,9 +174,9 @@ fn put_pair(clock: Clock, n: u8, lent: &mut [u32], at: usize) -> usize
     ensures { λ r. ⌜ r ≡ at + 2 ⌝ }
     ensures { λ _. ⌜ now (lent .exit) ≡ sets (now (lent .entry)) at (bitWidths clock false (odd (n / 2) ∷ odd n ∷ [])) ⌝ }
 {
-    lent[at] = width(clock, false, n / 2);
-    lent[at + 1] = width(clock, true, n);
-    at + 2
+    let passive = width(clock, false, n / 2);
+    let active = width(clock, true, n);
+    put_two(passive, active, lent, at)
 }
 
 // The width of a number's lowest bit.
@@ -188,4 +185,23 @@ fn width(clock: Clock, active: bool, n: u8) -> u32
 {
     let w = symbol::bit_width(clock, active, n % 2 == 1);
     w.0
+}
+
+// Two intervals, one behind the other.
+fn put_two(first: u32, second: u32, lent: &mut [u32], at: usize) -> usize
+    requires { ⌜ at + 2 ≤ length (now lent) ⌝ }
+    ensures { λ r. ⌜ r ≡ at + 2 ⌝ }
+    ensures { λ _. ⌜ now (lent .exit) ≡ sets (now (lent .entry)) at (first ∷ second ∷ []) ⌝ }
+{
+    put(first, lent, at);
+    put(second, lent, at + 1);
+    at + 2
+}
+
+// One interval, at its place. Every word of a frame is laid here.
+fn put(width: u32, lent: &mut [u32], at: usize)
+    requires { ⌜ at < length (now lent) ⌝ }
+    ensures { λ _. ⌜ now (lent .exit) ≡ set (now (lent .entry)) at width ⌝ }
+{
+    lent[at] = width;
 }

@@ -10,17 +10,17 @@ counts-requires c κs = search needs
 frames-requires : tie.Need-frames-requires
 frames-requires c κs = search needs
 
-shorts-requires : tie.Need-shorts-requires
-shorts-requires c κs = search needs
+widths-requires : tie.Need-widths-requires
+widths-requires c κs = search needs
 
-longs-requires : tie.Need-longs-requires
-longs-requires c κs = search needs
+widths-requires-2 : tie.Need-widths-requires-2
+widths-requires-2 c κs = search needs
 
 send-bits-requires : tie.Need-send-bits-requires
 send-bits-requires c κs =
     let l = c .before .before .before .before .before .before in
     let a = l .before .before .before .before .before in (
-      ready (a .args .at) _ _ _ _ (l .before .before .before .counts .ensures) (l .before .before .frames .ensures) (l .before .shorts .ensures) (l .longs .ensures) (search needs) (a .pre .0),
+      ready (a .args .at) _ _ _ _ (l .before .before .before .counts .ensures) (l .before .before .frames .ensures) (l .before .widths .ensures) (l .widths2 .ensures) (search needs) (a .pre .0),
       a .pre .1,
       a .pre .2,
     )
@@ -32,7 +32,7 @@ returns : tie.Need-returns
 returns c =
     let l = c .before .before .before .before .before .before .before .before .before in
     let a = l .before .before .before .before .before in
-    readied (a .args .at) _ _ _ _ (l .before .before .before .counts .ensures) (l .before .before .frames .ensures) (l .before .shorts .ensures) (l .longs .ensures) _ _ _ _ _ (c .before .before .send-bits .ensures)
+    readied (a .args .at) _ _ _ _ (l .before .before .before .counts .ensures) (l .before .before .frames .ensures) (l .before .widths .ensures) (l .widths2 .ensures) _ _ _ _ _ (c .before .before .send-bits .ensures)
 
 pub contend-spec : {M : Type 1} → statement M
 contend-spec =
@@ -40,8 +40,8 @@ contend-spec =
     (tie.spec
     counts-requires
     frames-requires
-    shorts-requires
-    longs-requires
+    widths-requires
+    widths-requires-2
     send-bits-requires
     same-length
     returns)

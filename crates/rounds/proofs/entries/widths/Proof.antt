@@ -1,26 +1,29 @@
--- `rounds::shorts` meets its contract: an array that is filled, place by place.
-use mathlib.Core.Path.{refl}
-use Rattle.rounds.specs.Entries.{shortOf}
-use Rattle.rounds.specs.EntryLaws.{Filled, each-start, each-more, each-all}
+-- `rounds::widths` meets its contract: an array that is filled, place by place.
 use Prim.Native.Nat.{_-_}
+use mathlib.Core.Path.{refl}
+use Rattle.rounds.specs.Entries.{widthOf}
+use Rattle.rounds.specs.EntryLaws.{Filled, each-start, each-more, each-all}
 use borrow.Author.Needs.{needs}
-use Rattle.rounds.proofs.entries.shorts.Statement.{statement}
-use Rattle.rounds.proofs.entries.shorts.Tie as tie
+use Rattle.rounds.proofs.entries.widths.Statement.{statement}
+use Rattle.rounds.proofs.entries.widths.Tie as tie
 
 abbrev Inv-loop : tie.InvT-loop
-Inv-loop row all₀ i₀ all i = Filled shortOf row all₀ all i
+Inv-loop long row all₀ i₀ all i = Filled (widthOf long) row all₀ all i
 
 abbrev μ-loop : tie.MeasureT-loop
-μ-loop row all₀ i₀ all i = 32 - i
+μ-loop long row all₀ i₀ all i = 32 - i
 
 loop-holds : tie.Need-loop-holds Inv-loop μ-loop
-loop-holds c = each-start shortOf _ _ (search needs) refl
+loop-holds c = each-start (widthOf (c .args .long)) _ _ (search needs) refl
 
 mul-station : tie.Need-mul-station Inv-loop μ-loop
 mul-station c = search needs
 
 array-copy-out-station : tie.Need-array-copy-out-station Inv-loop μ-loop
 array-copy-out-station c = search needs
+
+width-of-requires : tie.Need-width-of-requires Inv-loop μ-loop
+width-of-requires c κs = search needs
 
 mul-all : tie.Need-mul-all Inv-loop μ-loop
 mul-all c = search needs
@@ -35,13 +38,13 @@ loop-less : tie.Need-loop-less Inv-loop μ-loop
 loop-less c = search needs
 
 loop-again : tie.Need-loop-again Inv-loop μ-loop
-loop-again c = each-more shortOf (c .before .before .before .loop .inv) (search needs) _ _ (refl)
+loop-again c = each-more (widthOf (c .before .before .before .before .args .long)) (c .before .before .before .loop .inv) (search needs) _ _ (c .width-of .ensures)
 
 returns : tie.Need-returns Inv-loop μ-loop
-returns c = each-all shortOf (c .before .loop .inv) (c .loop-test .left)
+returns c = each-all (widthOf (c .before .before .args .long)) (c .before .loop .inv) (c .loop-test .left)
 
-pub shorts-spec : {M : Type 1} → statement M
-shorts-spec =
+pub widths-spec : {M : Type 1} → statement M
+widths-spec =
     tie.close
     (tie.spec
     Inv-loop
@@ -49,6 +52,7 @@ shorts-spec =
     loop-holds
     mul-station
     array-copy-out-station
+    width-of-requires
     mul-all
     array-write-all
     add-i
