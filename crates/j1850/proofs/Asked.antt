@@ -10,7 +10,7 @@ use Rattle.symbol.specs.declared.Clock.{Clock}
 use Rattle.framing.specs.declared.Response.{Response}
 use Rattle.framing.specs.declared.Writing.{Writing}
 use Rattle.framing.specs.Writing.{turnedAway, writing, counted, counts, wordsAfter, WritePromise}
-use Rattle.j1850.specs.Answers.{kindOf, noSuchKind, sheetOf, countedAs}
+use Rattle.numbers.specs.Answers.{kindOf, noSuchKind, sheetOf, countedAs}
 
 module _ (c : Clock) (main : List ℕ) (kind : ℕ) (rs : List ℕ) (lent : ℕ) where
   pub no-kind : 2 < kind → sheetOf c main kind rs lent ≡ noSuchKind c

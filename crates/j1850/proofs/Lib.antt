@@ -1,4 +1,3 @@
 mod Asked
 mod Handing
 mod Numbered
-mod Verdicts

@@ -28,12 +28,12 @@ use Rattle.contest.specs.Promises.{calledNumber}
 use Rattle.contest.proofs.Called as C
 use Rattle.contest.proofs.Called.Laws as C′
 use Rattle.laws.specs.Walk.{calls-plain}
-use Rattle.j1850.specs.declared.contests.CallAnswer.{CallAnswer}
-use Rattle.j1850.specs.Contests.{calledAs}
-use Rattle.j1850.proofs.contests.CallAnswer as N
-use Rattle.j1850.proofs.contests.CallAnswer.Laws as N′
-use Rattle.j1850.proofs.contests.called_as as called-as
-use Rattle.j1850.proofs.contests.called_as.Symbol.{name as #called-as}
+use Rattle.numbers.specs.declared.contests.CallAnswer.{CallAnswer}
+use Rattle.numbers.specs.Contests.{calledAs}
+use Rattle.numbers.proofs.contests.CallAnswer as N
+use Rattle.numbers.proofs.contests.CallAnswer.Laws as N′
+use Rattle.numbers.proofs.called_as as called-as
+use Rattle.numbers.proofs.called_as.Symbol.{name as #called-as}
 
 abbrev pub called-val : Called → Val
 called-val r = only (EL.vals C.the-type C′.the-laws r)

@@ -2,11 +2,10 @@
 ghost use mathlib.Core.Path.{_≡_};
 ghost use lib.ListN.{length};
 ghost use Rattle.live.specs.Feeding.{started, fedOf, lentOf, askedOf};
-ghost use Rattle.j1850.specs.Heard.{heardAs, askedAs};
-use crate::heard;
-use crate::heard::AskedAnswer;
-use crate::heard::HeardAnswer;
+ghost use Rattle.numbers.specs.Heard.{heardAs, askedAs};
 use live::Live;
+use numbers::AskedAnswer;
+use numbers::HeardAnswer;
 use units::Micros;
 
 // A live reader that has heard nothing.
@@ -24,7 +23,7 @@ pub extern "C" fn j1850_hear(live: &mut Live, width: u32, bytes: &mut [u8]) -> H
         × (now (live .exit) ≡ fedOf (now (live .entry)) width (length (now (bytes .entry))) .live)
         × (now (bytes .exit) ≡ lentOf (now (live .entry)) width (now (bytes .entry))) ⌝ }
 {
-    heard::heard_as(listen::hear(live, Micros(width), bytes))
+    numbers::heard_as(listen::hear(live, Micros(width), bytes))
 }
 
 // Whether a frame has begun and is unfinished, at the moment of asking.
@@ -32,5 +31,5 @@ pub extern "C" fn j1850_hear(live: &mut Live, width: u32, bytes: &mut [u8]) -> H
 pub extern "C" fn j1850_ask(live: &Live) -> AskedAnswer
     ensures { λ r. ⌜ r ≡ askedAs (askedOf (now (live .entry))) ⌝ }
 {
-    heard::asked_as(listen::ask(live))
+    numbers::asked_as(listen::ask(live))
 }

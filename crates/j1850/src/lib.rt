@@ -1,8 +1,6 @@
 // The open calls for C, Rust and Python; include/j1850.h says what each takes and answers. Each call hands its arguments
-// to the room that does the work and gives that room's answer as numbers, document 01's number first.
-mod answers;
-mod contests;
-mod heard;
+// to the room that does the work and gives that room's answer as numbers, the number of what came of it first. Those
+// numbers are documents 01's and 02's; 61, 62 and 63 are our own.
 mod hearing;
 mod row;
 
@@ -17,15 +15,15 @@ ghost use Rattle.framing.specs.Reading.{reading};
 ghost use Rattle.framing.specs.Answers.{tells, lentAfter};
 ghost use Rattle.framing.specs.Writing.{counts, wordsAfter};
 ghost use Rattle.text.specs.Calls.{answering, pageTells, lentShort, laidWords, laidText, laidOn};
-ghost use Rattle.j1850.specs.Answers.{checkAs, classAs, timedAs, tracedAs, sheetOf, countedAs, readAs, deskAs};
-use answers::CHECKED;
-use answers::Check;
-use answers::Class;
-use answers::Counted;
-use answers::DONE;
-use answers::Desk;
-use answers::Read;
-use answers::Timed;
+ghost use Rattle.numbers.specs.Answers.{checkAs, classAs, timedAs, tracedAs, sheetOf, countedAs, readAs, deskAs};
+use numbers::CHECKED;
+use numbers::Check;
+use numbers::Class;
+use numbers::Counted;
+use numbers::DONE;
+use numbers::Desk;
+use numbers::Read;
+use numbers::Timed;
 use symbol::Clock;
 use units::Micros;
 use units::Place;
@@ -48,7 +46,7 @@ pub extern "C" fn j1850_check_byte(bytes: &[u8]) -> Check
 pub extern "C" fn j1850_class(active: bool, width: u32) -> Class
     ensures { λ r. ⌜ r ≡ classAs (classOf active width) ⌝ }
 {
-    let symbol = answers::symbol_number(symbol::class(active, Micros(width)));
+    let symbol = numbers::symbol_number(symbol::class(active, Micros(width)));
     Class {
         number: DONE,
         symbol,
@@ -70,7 +68,7 @@ pub extern "C" fn j1850_intervals(gate: Gate, samples: &[f32], words: &mut [u32]
     ensures { λ r. ⌜ r ≡ tracedAs (outcome gate (now (samples .entry)) (now (words .entry))) ⌝ }
     ensures { λ _. ⌜ now (words .exit) ≡ tracedWords (outcome gate (now (samples .entry)) (now (words .entry))) (intervalsOf gate (now (samples .entry))) (now (words .entry)) ⌝ }
 {
-    answers::traced(volts::intervals(gate, samples, words))
+    numbers::traced(volts::intervals(gate, samples, words))
 }
 
 // Writes the frame of a message, at a clock, into lent words. A kind that is none of the three is turned away as a bad
@@ -87,9 +85,9 @@ pub extern "C" fn j1850_write(
     ensures { λ _. ⌜ now (words .exit) ≡ wordsAfter (sheetOf clock (now (main .entry)) kind (now (response .entry)) (length (now (words .entry)))) (now (words .entry)) ⌝ }
 {
     if kind > CHECKED {
-        return answers::no_such_kind(clock);
+        return numbers::no_such_kind(clock);
     }
-    answers::written(writer::write(clock, main, answers::kind_of(kind), response, words))
+    numbers::written(writer::write(clock, main, numbers::kind_of(kind), response, words))
 }
 
 // Reads the first frame from a position of a recording on; its bytes go into lent bytes, at least 12.
@@ -98,7 +96,7 @@ pub extern "C" fn j1850_read(intervals: &[u32], from: usize, bytes: &mut [u8]) -
     ensures { λ r. ⌜ r ≡ readAs (tells (reading (now (intervals .entry)) from (length (now (bytes .entry))))) ⌝ }
     ensures { λ _. ⌜ now (bytes .exit) ≡ lentAfter (reading (now (intervals .entry)) from (length (now (bytes .entry)))) (now (bytes .entry)) ⌝ }
 {
-    answers::read_as(reader::read(intervals, Place(from), bytes))
+    numbers::read_as(reader::read(intervals, Place(from), bytes))
 }
 
 // The desk's whole text for an input, into lent bytes; the input's widths go into lent words.
@@ -108,5 +106,5 @@ pub extern "C" fn j1850_desk(input: &[u8], words: &mut [u32], text: &mut [u8]) -
     ensures { λ _. ⌜ now (words .exit) ≡ laidOn (laidWords (lentShort (length (now (words .entry))) (length (now (text .entry)))) (now (input .entry))) (now (words .entry)) ⌝ }
     ensures { λ _. ⌜ now (text .exit) ≡ laidOn (laidText (lentShort (length (now (words .entry))) (length (now (text .entry)))) (now (input .entry))) (now (text .entry)) ⌝ }
 {
-    answers::desk_as(report::desk(input, words, text))
+    numbers::desk_as(report::desk(input, words, text))
 }

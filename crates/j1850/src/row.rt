@@ -3,11 +3,10 @@ ghost use mathlib.Core.Path.{_≡_};
 ghost use Rattle.contest.specs.Calls as Calls;
 ghost use Rattle.contest.specs.Calls.{numberOf, after, lentAfter};
 ghost use Rattle.contest.specs.Promises.{roundSays};
-ghost use Rattle.j1850.specs.Contests.{calledAs, roundAs};
-use crate::contests;
-use crate::contests::CallAnswer;
-use crate::contests::RoundAnswer;
+ghost use Rattle.numbers.specs.Contests.{calledAs, roundAs};
 use contest::Station;
+use numbers::CallAnswer;
+use numbers::RoundAnswer;
 use symbol::Clock;
 
 // Loads a message into the station at a place, from 0 on.
@@ -16,7 +15,7 @@ pub extern "C" fn j1850_load(row: &mut [Station], place: usize, message: &[u8]) 
     ensures { λ r. ⌜ (r ≡ calledAs (numberOf (Calls.load place (now (message .entry))) (now (row .entry))))
         × (now (row .exit) ≡ after (Calls.load place (now (message .entry))) (now (row .entry))) ⌝ }
 {
-    contests::called_as(bench::load(row, place, message))
+    numbers::called_as(bench::load(row, place, message))
 }
 
 // Withdraws the message of the station at a place.
@@ -25,7 +24,7 @@ pub extern "C" fn j1850_withdraw(row: &mut [Station], place: usize) -> CallAnswe
     ensures { λ r. ⌜ (r ≡ calledAs (numberOf (Calls.withdraw place) (now (row .entry))))
         × (now (row .exit) ≡ after (Calls.withdraw place) (now (row .entry))) ⌝ }
 {
-    contests::called_as(bench::withdraw(row, place))
+    numbers::called_as(bench::withdraw(row, place))
 }
 
 // Sets the clock of the station at a place.
@@ -34,7 +33,7 @@ pub extern "C" fn j1850_set_clock(row: &mut [Station], place: usize, clock: Cloc
     ensures { λ r. ⌜ (r ≡ calledAs (numberOf (Calls.setClock place clock) (now (row .entry))))
         × (now (row .exit) ≡ after (Calls.setClock place clock) (now (row .entry))) ⌝ }
 {
-    contests::called_as(bench::set_clock(row, place, clock))
+    numbers::called_as(bench::set_clock(row, place, clock))
 }
 
 // Plays a round and writes its words into those lent, at least 101.
@@ -44,5 +43,5 @@ pub extern "C" fn j1850_round(row: &mut [Station], words: &mut [u32]) -> RoundAn
         × (now (row .exit) ≡ after (Calls.round (now (words .entry))) (now (row .entry)))
         × (now (words .exit) ≡ lentAfter (now (row .entry)) (now (words .entry))) ⌝ }
 {
-    contests::round_as(bench::round(row, words))
+    numbers::round_as(bench::round(row, words))
 }

@@ -1,6 +1,6 @@
 -- `j1850::j1850_check_byte` gives the check byte that the room below answers.
 use mathlib.Core.Path.{ap}
-use Rattle.j1850.specs.Answers.{checkAs}
+use Rattle.numbers.specs.Answers.{checkAs}
 use borrow.Author.Needs.{needs}
 use Rattle.j1850.proofs.j1850_check_byte.Statement.{statement}
 use Rattle.j1850.proofs.j1850_check_byte.Tie as tie

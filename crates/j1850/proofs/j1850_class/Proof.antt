@@ -1,6 +1,6 @@
 -- `j1850::j1850_class` gives the number of the symbol that the room below answers.
 use mathlib.Core.Path.{ap}
-use Rattle.j1850.specs.Answers.{classAs}
+use Rattle.numbers.specs.Answers.{classAs}
 use borrow.Author.Needs.{needs}
 use Rattle.j1850.proofs.j1850_class.Statement.{statement}
 use Rattle.j1850.proofs.j1850_class.Tie as tie

@@ -1,6 +1,6 @@
 -- `j1850::j1850_desk` gives what the room below promises of the input.
 use mathlib.Core.Path.{ap, _∙_}
-use Rattle.j1850.specs.Answers.{deskAs}
+use Rattle.numbers.specs.Answers.{deskAs}
 use borrow.Author.Needs.{needs}
 use Rattle.j1850.proofs.j1850_desk.Statement.{statement}
 use Rattle.j1850.proofs.j1850_desk.Tie as tie

@@ -1,6 +1,6 @@
 -- `j1850::j1850_good_clock` gives what the room below answers of the clock.
 use mathlib.Core.Path.{ap}
-use Rattle.j1850.specs.Answers.{timedAs}
+use Rattle.numbers.specs.Answers.{timedAs}
 use borrow.Author.Needs.{needs}
 use Rattle.j1850.proofs.j1850_good_clock.Statement.{statement}
 use Rattle.j1850.proofs.j1850_good_clock.Tie as tie

@@ -1,6 +1,6 @@
 -- `j1850::j1850_intervals` gives what the room below promises of the trace.
 use mathlib.Core.Path.{ap, _∙_}
-use Rattle.j1850.specs.Answers.{tracedAs}
+use Rattle.numbers.specs.Answers.{tracedAs}
 use borrow.Author.Needs.{needs}
 use Rattle.j1850.proofs.j1850_intervals.Statement.{statement}
 use Rattle.j1850.proofs.j1850_intervals.Tie as tie

@@ -1,6 +1,6 @@
 -- `j1850::j1850_read` gives what the room below promises of the recording.
 use mathlib.Core.Path.{ap, _∙_}
-use Rattle.j1850.specs.Answers.{readAs}
+use Rattle.numbers.specs.Answers.{readAs}
 use borrow.Author.Needs.{needs}
 use Rattle.j1850.proofs.j1850_read.Statement.{statement}
 use Rattle.j1850.proofs.j1850_read.Tie as tie

@@ -37,15 +37,15 @@ use Rattle.listen.proofs.ask as inner
 use Rattle.listen.proofs.ask.Symbol as inner-def
 use Rattle.listen.proofs.ask.Symbol.{name as #inner}
 use Rattle.listen.proofs.ask.Met as inner-thm
-use Rattle.j1850.specs.declared.heard.AskedAnswer.{AskedAnswer}
-use Rattle.j1850.specs.Heard.{askedAs}
+use Rattle.numbers.specs.declared.heard.AskedAnswer.{AskedAnswer}
+use Rattle.numbers.specs.Heard.{askedAs}
 use Rattle.j1850.proofs.Handing.{calls-handed, hands-back, walks-on}
-use Rattle.j1850.proofs.heard.AskedAnswer as N
-use Rattle.j1850.proofs.heard.AskedAnswer.Laws as N′
-use Rattle.j1850.proofs.heard.asked_as as asked-as
-use Rattle.j1850.proofs.heard.asked_as.Symbol as as-def
-use Rattle.j1850.proofs.heard.asked_as.Symbol.{name as #as}
-use Rattle.j1850.proofs.heard.asked_as.Met as as-thm
+use Rattle.numbers.proofs.heard.AskedAnswer as N
+use Rattle.numbers.proofs.heard.AskedAnswer.Laws as N′
+use Rattle.numbers.proofs.asked_as as asked-as
+use Rattle.numbers.proofs.asked_as.Symbol as as-def
+use Rattle.numbers.proofs.asked_as.Symbol.{name as #as}
+use Rattle.numbers.proofs.asked_as.Met as as-thm
 use Rattle.j1850.proofs.hearing.j1850_ask.Key.{name as #self}
 use Rattle.j1850.proofs.hearing.j1850_ask as f
 use Rattle.j1850.proofs.hearing.j1850_ask.Statement as stated
@@ -124,4 +124,4 @@ j1850-ask-spec 𝓤 H 𝓜 𝓖 𝓡 =
     (tables 𝓤 H 𝓜 𝓡 code.env .C) (tables 𝓤 H 𝓜 𝓡 code.env .Λ) #self code.function (code.unfolded 𝓤 H 𝓜 𝓡)
     (meets 𝓤 H (𝓖 .A) (givenOf 𝓤 H 𝓜 𝓖) (𝓜 .mem) (𝓡 .run) (tablesOf 𝓤 H 𝓜 (tables 𝓤 H 𝓜 𝓡 code.env))
     (cited 𝓤 H (tripleOf 𝓤 H (𝓖 .A) inner.signature (inner.spec 𝓤 H (𝓖 .A) (𝓜 .mem) (𝓡 .run))) 𝓜 𝓡 code.env #inner inner-def.routine code.calls-listen·ask (inner-thm.met 𝓤 H 𝓜 𝓖 𝓡))
-    (cited 𝓤 H (AskedAs 𝓤 H (𝓖 .A) (𝓜 .mem) (𝓡 .run)) 𝓜 𝓡 code.env #as as-def.routine code.calls-j1850·heard·asked-as (as-thm.met 𝓤 H 𝓜 𝓖 𝓡)))
+    (cited 𝓤 H (AskedAs 𝓤 H (𝓖 .A) (𝓜 .mem) (𝓡 .run)) 𝓜 𝓡 code.env #as as-def.routine code.calls-numbers·asked-as (as-thm.met 𝓤 H 𝓜 𝓖 𝓡)))

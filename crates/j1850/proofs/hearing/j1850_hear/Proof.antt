@@ -49,15 +49,15 @@ use Rattle.listen.proofs.hear as inner
 use Rattle.listen.proofs.hear.Symbol as inner-def
 use Rattle.listen.proofs.hear.Symbol.{name as #inner}
 use Rattle.listen.proofs.hear.Met as inner-thm
-use Rattle.j1850.specs.declared.heard.HeardAnswer.{HeardAnswer}
-use Rattle.j1850.specs.Heard.{heardAs}
+use Rattle.numbers.specs.declared.heard.HeardAnswer.{HeardAnswer}
+use Rattle.numbers.specs.Heard.{heardAs}
 use Rattle.j1850.proofs.Handing.{calls-handed, hands-back, walks-on}
-use Rattle.j1850.proofs.heard.HeardAnswer as N
-use Rattle.j1850.proofs.heard.HeardAnswer.Laws as N′
-use Rattle.j1850.proofs.heard.heard_as as heard-as
-use Rattle.j1850.proofs.heard.heard_as.Symbol as as-def
-use Rattle.j1850.proofs.heard.heard_as.Symbol.{name as #as}
-use Rattle.j1850.proofs.heard.heard_as.Met as as-thm
+use Rattle.numbers.proofs.heard.HeardAnswer as N
+use Rattle.numbers.proofs.heard.HeardAnswer.Laws as N′
+use Rattle.numbers.proofs.heard_as as heard-as
+use Rattle.numbers.proofs.heard_as.Symbol as as-def
+use Rattle.numbers.proofs.heard_as.Symbol.{name as #as}
+use Rattle.numbers.proofs.heard_as.Met as as-thm
 use Rattle.j1850.proofs.hearing.j1850_hear.Key.{name as #self}
 use Rattle.j1850.proofs.hearing.j1850_hear as f
 use Rattle.j1850.proofs.hearing.j1850_hear.Statement as stated
@@ -168,4 +168,4 @@ j1850-hear-spec 𝓤 H 𝓜 𝓖 𝓡 =
     (tables 𝓤 H 𝓜 𝓡 code.env .C) (tables 𝓤 H 𝓜 𝓡 code.env .Λ) #self code.function (code.unfolded 𝓤 H 𝓜 𝓡)
     (meets 𝓤 H (𝓖 .A) (givenOf 𝓤 H 𝓜 𝓖) (𝓜 .mem) (𝓡 .run) (tablesOf 𝓤 H 𝓜 (tables 𝓤 H 𝓜 𝓡 code.env))
     (cited 𝓤 H (tripleOf 𝓤 H (𝓖 .A) inner.signature (inner.spec 𝓤 H (𝓖 .A) (𝓜 .mem) (𝓡 .run))) 𝓜 𝓡 code.env #inner inner-def.routine code.calls-listen·hear (inner-thm.met 𝓤 H 𝓜 𝓖 𝓡))
-    (cited 𝓤 H (HeardAs 𝓤 H (𝓖 .A) (𝓜 .mem) (𝓡 .run)) 𝓜 𝓡 code.env #as as-def.routine code.calls-j1850·heard·heard-as (as-thm.met 𝓤 H 𝓜 𝓖 𝓡)))
+    (cited 𝓤 H (HeardAs 𝓤 H (𝓖 .A) (𝓜 .mem) (𝓡 .run)) 𝓜 𝓡 code.env #as as-def.routine code.calls-numbers·heard-as (as-thm.met 𝓤 H 𝓜 𝓖 𝓡)))
