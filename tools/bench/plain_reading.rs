@@ -92,6 +92,8 @@ impl Reader {
         }
     }
 
+    /// Laid out in each loop that calls it, as the compiler does in a program with one such loop.
+    #[inline(always)]
     pub fn step(&mut self, symbol: Symbol) -> Step {
         match (symbol, self.phase) {
             (Symbol::Noise, _) => Step::Fault(11),

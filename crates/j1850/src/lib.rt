@@ -1,7 +1,6 @@
 // The open calls for C, Rust and Python; include/j1850.h says what each takes and answers. Each call hands its arguments
 // to the room that does the work and gives that room's answer as numbers, the number of what came of it first. Those
 // numbers are documents 01's and 02's; 61, 62 and 63 are our own.
-mod hearing;
 mod row;
 
 ghost use mathlib.Core.Path.{_≡_};

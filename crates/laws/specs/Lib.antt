@@ -3,3 +3,4 @@ pub mod Tests
 pub mod Each
 pub mod Lent
 pub mod Walk
+pub mod Handing

@@ -43,7 +43,7 @@ use Rattle.bench.proofs.round.Symbol.{name as #inner}
 use Rattle.bench.proofs.round.Met as inner-thm
 use Rattle.numbers.specs.declared.contests.RoundAnswer as plain
 use Rattle.numbers.specs.Contests.{roundAs}
-use Rattle.j1850.proofs.Handing.{calls-handed, hands-back, walks-on}
+use Rattle.laws.specs.Handing.{calls-handed, hands-back, walks-on}
 use Rattle.numbers.proofs.contests.RoundAnswer as N
 use Rattle.numbers.proofs.contests.RoundAnswer.Laws as N′
 use Rattle.numbers.proofs.round_as as round-as

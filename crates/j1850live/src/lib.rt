@@ -1,4 +1,6 @@
-// The calls on a lent live reader. The reader is handed on as it is lent, and changed in place.
+// The open calls on a lent live reader for C, Rust and Python. The reader is handed on as it is lent, and changed in place.
+// They are compiled apart from the other calls, so that the frame machine is laid out once in the loop that reads a whole
+// recording and once here.
 ghost use mathlib.Core.Path.{_≡_};
 ghost use lib.ListN.{length};
 ghost use Rattle.live.specs.Feeding.{started, fedOf, lentOf, askedOf};

@@ -1,4 +1,4 @@
--- `j1850::j1850_hear` gives what hearing with a lent reader promises: a walk of its code, by hand. All that is lent is handed
+-- `j1850live::j1850_hear` gives what hearing with a lent reader promises: a walk of its code, by hand. All that is lent is handed
 -- on, and the width is handed on as one of microseconds.
 use mathlib.Core.Path.{_≡_, refl, ap}
 use mathlib.Core.Option.{some as full}
@@ -51,18 +51,18 @@ use Rattle.listen.proofs.hear.Symbol.{name as #inner}
 use Rattle.listen.proofs.hear.Met as inner-thm
 use Rattle.numbers.specs.declared.heard.HeardAnswer.{HeardAnswer}
 use Rattle.numbers.specs.Heard.{heardAs}
-use Rattle.j1850.proofs.Handing.{calls-handed, hands-back, walks-on}
+use Rattle.laws.specs.Handing.{calls-handed, hands-back, walks-on}
 use Rattle.numbers.proofs.heard.HeardAnswer as N
 use Rattle.numbers.proofs.heard.HeardAnswer.Laws as N′
 use Rattle.numbers.proofs.heard_as as heard-as
 use Rattle.numbers.proofs.heard_as.Symbol as as-def
 use Rattle.numbers.proofs.heard_as.Symbol.{name as #as}
 use Rattle.numbers.proofs.heard_as.Met as as-thm
-use Rattle.j1850.proofs.hearing.j1850_hear.Key.{name as #self}
-use Rattle.j1850.proofs.hearing.j1850_hear as f
-use Rattle.j1850.proofs.hearing.j1850_hear.Statement as stated
-use Rattle.j1850.proofs.hearing.j1850_hear.Code as code
-use Rattle.j1850.proofs.hearing.j1850_hear.Code.Mir as mir
+use Rattle.j1850live.proofs.j1850_hear.Key.{name as #self}
+use Rattle.j1850live.proofs.j1850_hear as f
+use Rattle.j1850live.proofs.j1850_hear.Statement as stated
+use Rattle.j1850live.proofs.j1850_hear.Code as code
+use Rattle.j1850live.proofs.j1850_hear.Code.Mir as mir
 
 -- machine values
 abbrev width-val : Micros → Val

@@ -1,4 +1,4 @@
--- `j1850::j1850_ask` gives what asking a lent reader promises: a walk of its code, by hand. The reader is handed on.
+-- `j1850live::j1850_ask` gives what asking a lent reader promises: a walk of its code, by hand. The reader is handed on.
 use mathlib.Core.Path.{_≡_, refl, ap}
 use mathlib.Core.Option.{some as full}
 use mathlib.Core.List.{[], _∷_, List}
@@ -39,18 +39,18 @@ use Rattle.listen.proofs.ask.Symbol.{name as #inner}
 use Rattle.listen.proofs.ask.Met as inner-thm
 use Rattle.numbers.specs.declared.heard.AskedAnswer.{AskedAnswer}
 use Rattle.numbers.specs.Heard.{askedAs}
-use Rattle.j1850.proofs.Handing.{calls-handed, hands-back, walks-on}
+use Rattle.laws.specs.Handing.{calls-handed, hands-back, walks-on}
 use Rattle.numbers.proofs.heard.AskedAnswer as N
 use Rattle.numbers.proofs.heard.AskedAnswer.Laws as N′
 use Rattle.numbers.proofs.asked_as as asked-as
 use Rattle.numbers.proofs.asked_as.Symbol as as-def
 use Rattle.numbers.proofs.asked_as.Symbol.{name as #as}
 use Rattle.numbers.proofs.asked_as.Met as as-thm
-use Rattle.j1850.proofs.hearing.j1850_ask.Key.{name as #self}
-use Rattle.j1850.proofs.hearing.j1850_ask as f
-use Rattle.j1850.proofs.hearing.j1850_ask.Statement as stated
-use Rattle.j1850.proofs.hearing.j1850_ask.Code as code
-use Rattle.j1850.proofs.hearing.j1850_ask.Code.Mir as mir
+use Rattle.j1850live.proofs.j1850_ask.Key.{name as #self}
+use Rattle.j1850live.proofs.j1850_ask as f
+use Rattle.j1850live.proofs.j1850_ask.Statement as stated
+use Rattle.j1850live.proofs.j1850_ask.Code as code
+use Rattle.j1850live.proofs.j1850_ask.Code.Mir as mir
 
 -- machine values
 abbrev answer-val : Asked → Val
