@@ -16,9 +16,9 @@ use Rattle.contest.specs.Contest.{emptied}
 use Rattle.contest.specs.Calls.{load, withdraw, setClock, rowSize, allSound, unsoundStation, noStation, badMessage, badClock, holding, nothingToWithdraw, allEmpty, refuse, numberOf, taken, loaded, clocked, at, done, after}
 use Rattle.contest.specs.Promises.{LoadPromise, WithdrawPromise, ClockPromise}
 use Rattle.rows.specs.declared.Bench.{Bench}
-use Rattle.rows.specs.declared.calls.Changed.{Changed}
-use Rattle.rows.specs.Benches.{withOf, benchOf}
-use Rattle.rows.specs.Changes.{stationOf, ChangedBy, rowNumber, andThen, loadRules, loadNumber, loadedBench, withdrawRules, withdrawNumber, withdrawnBench, clockRules, clockNumber, clockedBench}
+use Rattle.calls.specs.declared.Changed.{Changed}
+use Rattle.rows.specs.Benches.{benchOf}
+use Rattle.calls.specs.Changes.{stationOf, withOf, ChangedBy, rowNumber, andThen, loadRules, loadNumber, loadedBench, withdrawRules, withdrawNumber, withdrawnBench, clockRules, clockNumber, clockedBench}
 use Rattle.bench.specs.Padding.{sound-pad, empty-pad}
 use Rattle.bench.specs.Restoring.{padded, putBack, put-first, put-same}
 

@@ -43,7 +43,7 @@ pub fn load(row: &mut [Station], place: usize, message: &[u8]) -> Called
     ensures { λ r. ⌜ LoadPromise place (now (message .entry)) (now (row .entry)) (now (row .exit)) r ⌝ }
 {
     let bench = gathered(row);
-    let changed = rows::load_on(bench, place, message);
+    let changed = calls::load_on(bench, place, message);
     put_back(row, changed.bench);
     changed.called
 }
@@ -53,7 +53,7 @@ pub fn withdraw(row: &mut [Station], place: usize) -> Called
     ensures { λ r. ⌜ WithdrawPromise place (now (row .entry)) (now (row .exit)) r ⌝ }
 {
     let bench = gathered(row);
-    let changed = rows::withdraw_on(bench, place);
+    let changed = calls::withdraw_on(bench, place);
     put_back(row, changed.bench);
     changed.called
 }
@@ -63,7 +63,7 @@ pub fn set_clock(row: &mut [Station], place: usize, clock: Clock) -> Called
     ensures { λ r. ⌜ ClockPromise place clock (now (row .entry)) (now (row .exit)) r ⌝ }
 {
     let bench = gathered(row);
-    let changed = rows::set_clock_on(bench, place, clock);
+    let changed = calls::set_clock_on(bench, place, clock);
     put_back(row, changed.bench);
     changed.called
 }

@@ -1,19 +1,13 @@
-// A row by value, what is asked of it as a whole, and the calls at one of its places.
+// A row by value, and what is asked of it as a whole.
 ghost use mathlib.Core.Path.{_≡_};
 ghost use Prim.Native.Nat.{min};
 ghost use lib.ListN.{getD, replicate};
 ghost use Rattle.contest.specs.Stations.{mostStations, blank};
-ghost use Rattle.rows.specs.Benches.{withOf};
+ghost use Rattle.contest.specs.Contest.{emptied};
 use contest::Station;
 
-mod calls;
 mod survey;
 
-pub use calls::Changed;
-pub use calls::empty;
-pub use calls::load_on;
-pub use calls::set_clock_on;
-pub use calls::withdraw_on;
 pub use survey::Survey;
 pub use survey::bad_size;
 pub use survey::greater;
@@ -55,17 +49,6 @@ pub fn bench_of(at: [Station; 32], count: usize) -> Bench
     Bench { at, count }
 }
 
-// The bench with a station put at place i. A place past the 32nd is not kept.
-fn with(bench: Bench, i: usize, station: Station) -> Bench
-    ensures { λ r. ⌜ r ≡ withOf bench i station ⌝ }
-{
-    let mut next = bench;
-    if i < MOST_STATIONS {
-        next.at[i] = station;
-    }
-    next
-}
-
 // The station that the bench has at place i, or else the one that stands there.
 pub fn station_at(bench: Bench, i: usize, station: Station) -> Station
     ensures { λ r. ⌜ r ≡ getD (bench .at) i station ⌝ }
@@ -74,4 +57,13 @@ pub fn station_at(bench: Bench, i: usize, station: Station) -> Station
         return bench.at[i];
     }
     station
+}
+
+// A station of length 0; every other field stays.
+pub fn empty(station: Station) -> Station
+    ensures { λ r. ⌜ r ≡ emptied station ⌝ }
+{
+    let mut next = station;
+    next.len = 0;
+    next
 }

@@ -46,27 +46,27 @@ use Rattle.contest.proofs.Station as T
 use Rattle.contest.proofs.Called as A′
 use Rattle.contest.proofs.Called.Laws as A″
 use Rattle.rows.specs.declared.Bench.{Bench}
-use Rattle.rows.specs.declared.calls.Changed.{Changed}
+use Rattle.calls.specs.declared.Changed.{Changed}
 use Rattle.rows.specs.Benches.{benchOf}
-use Rattle.rows.specs.Changes.{ChangedBy, clockNumber, clockedBench}
+use Rattle.calls.specs.Changes.{ChangedBy, clockNumber, clockedBench}
 use Rattle.bench.specs.Restoring.{putBack, put-length}
 use Rattle.bench.specs.Lent.{clock-kept}
 use Rattle.laws.specs.Walk.{envOf, allocs-all, frees-all, calls-known, upFrom}
 use Rattle.bench.proofs.Passing.{bval, Gathered, PutBack, calls-gathered, calls-put-back}
 use Rattle.rows.proofs.Bench as B
 use Rattle.rows.proofs.Bench.Laws as B′
-use Rattle.rows.proofs.calls.Changed as S
-use Rattle.rows.proofs.calls.Changed.Laws as S′
+use Rattle.calls.proofs.Changed as S
+use Rattle.calls.proofs.Changed.Laws as S′
 use Rattle.bench.proofs.row.gathered.Symbol as gathered-def
 use Rattle.bench.proofs.row.gathered.Symbol.{name as #gathered}
 use Rattle.bench.proofs.row.gathered.Met as gathered-thm
 use Rattle.bench.proofs.row.put_back.Symbol as put-back-def
 use Rattle.bench.proofs.row.put_back.Symbol.{name as #put-back}
 use Rattle.bench.proofs.row.put_back.Met as put-back-thm
-use Rattle.rows.proofs.set_clock_on as set-clock-on
-use Rattle.rows.proofs.set_clock_on.Symbol as set-clock-on-def
-use Rattle.rows.proofs.set_clock_on.Symbol.{name as #set-clock-on}
-use Rattle.rows.proofs.set_clock_on.Met as set-clock-on-thm
+use Rattle.calls.proofs.set_clock_on as set-clock-on
+use Rattle.calls.proofs.set_clock_on.Symbol as set-clock-on-def
+use Rattle.calls.proofs.set_clock_on.Symbol.{name as #set-clock-on}
+use Rattle.calls.proofs.set_clock_on.Met as set-clock-on-thm
 use Rattle.bench.proofs.row.set_clock.Key.{name as #set-clock}
 use Rattle.bench.proofs.row.set_clock as f
 use Rattle.bench.proofs.row.set_clock.Statement as stated
@@ -184,4 +184,4 @@ set-clock-spec 𝓤 H 𝓜 𝓖 𝓡 =
     (set-clock-meets 𝓤 H (𝓖 .A) (givenOf 𝓤 H 𝓜 𝓖) (𝓜 .mem) (𝓡 .run) (tablesOf 𝓤 H 𝓜 (tables 𝓤 H 𝓜 𝓡 code.env))
     (cited 𝓤 H (Gathered 𝓤 H (𝓖 .A) (𝓜 .mem) (𝓡 .run)) 𝓜 𝓡 code.env #gathered gathered-def.routine code.calls-bench·row·gathered (gathered-thm.met 𝓤 H 𝓜 𝓖 𝓡))
     (cited 𝓤 H (PutBack 𝓤 H (𝓖 .A) (𝓜 .mem) (𝓡 .run)) 𝓜 𝓡 code.env #put-back put-back-def.routine code.calls-bench·row·put-back (put-back-thm.met 𝓤 H 𝓜 𝓖 𝓡))
-    (cited 𝓤 H (Call 𝓤 H (𝓖 .A) (𝓜 .mem) (𝓡 .run)) 𝓜 𝓡 code.env #set-clock-on set-clock-on-def.routine code.calls-rows·set-clock-on (set-clock-on-thm.met 𝓤 H 𝓜 𝓖 𝓡)))
+    (cited 𝓤 H (Call 𝓤 H (𝓖 .A) (𝓜 .mem) (𝓡 .run)) 𝓜 𝓡 code.env #set-clock-on set-clock-on-def.routine code.calls-calls·set-clock-on (set-clock-on-thm.met 𝓤 H 𝓜 𝓖 𝓡)))
