@@ -5,6 +5,7 @@ use mathlib.Core.Bool.{Bool, true, false}
 use mathlib.Core.List.{List}
 use native.Mathlib.Omega.{arith}
 use lib.Dec.{leb}
+use lib.ListN.{length}
 use borrow.Author.Tests.{leb-true}
 use Rattle.symbol.specs.declared.Symbol.{Symbol}
 use Rattle.symbol.specs.Classes.{classOf, endOf}
@@ -14,6 +15,7 @@ use Rattle.machine.specs.declared.Machine.{Machine}
 use Rattle.machine.specs.declared.Event.{Event}
 use Rattle.machine.specs.declared.Stepped.{Stepped}
 use Rattle.machine.specs.Steps.{stepOf}
+use Rattle.machine.specs.Laying.{laid, laidOf, laid-enough}
 use Rattle.live.specs.declared.Inside.{Inside}
 use Rattle.live.specs.declared.Live.{Live}
 use Rattle.live.specs.Feeding.{least, heldBy, fedBy, laidBy, stepAt, endsAt}
@@ -26,6 +28,10 @@ held-few i = go (leb (i .count) mostBytes) refl
     go : (b : Bool) → leb (i .count) mostBytes ≡ b → least (i .count) mostBytes ≤ mostBytes
     go true e = rw e (leb-true _ _ e)
     go false e = rw e (omega arith)
+
+-- so that twelve lent bytes have room for all of them
+pub laid-held : (i : Inside) (lent : List ℕ) → mostBytes ≤ length lent → laidOf (heldBy i .count) (i .kept) lent ≡ laid (heldBy i .count) (i .kept) lent
+laid-held i lent h = laid-enough (heldBy i .count) (i .kept) lent (held-few i) (omega (arith, h, held-few i))
 
 -- what the code has of a reader's interval before it looks at the event
 pub record Steps (v : Live) (w : ℕ) (end : Bool) (t : Stepped) : Type 0 where

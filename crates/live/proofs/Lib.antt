@@ -1,3 +1,2 @@
-mod Laying
 mod Events
 mod Room

@@ -2,9 +2,9 @@
 -- whole recording is shown in Whole.antt.
 use Prim.Native.Nat.{ℕ, _+_}
 use mathlib.Core.Bool.{Bool, true, false, cond, not}
-use mathlib.Core.List.{List, _++_}
+use mathlib.Core.List.{List}
 use lib.Dec.{eqb, leb, ltb}
-use lib.ListN.{length, take, drop, set, replicate}
+use lib.ListN.{length, set, replicate}
 use Rattle.units.specs.declared.LongPlace.{LongPlace}
 use Rattle.symbol.specs.Classes.{classOf, endOf}
 use Rattle.framing.specs.declared.Fault.{Fault}
@@ -18,6 +18,7 @@ use Rattle.machine.specs.declared.Event.the-variants.{Going, Byte, Closed, Faul
 use Rattle.machine.specs.declared.Stepped.{Stepped}
 use Rattle.machine.specs.Steps.{fresh, stepOf}
 use Rattle.machine.specs.declared.parts.Parts.{Parts}
+use Rattle.machine.specs.Laying.{laid}
 use Rattle.machine.specs.Parts.{partsOf}
 use Rattle.live.specs.declared.Places.{Places}
 use Rattle.live.specs.declared.Inside.{Inside}
@@ -157,10 +158,6 @@ fedOf v w lent =
     cond (not (eqb (v .places .full) 0)) (refusedBy v PastPlaces)
     (cond (ltb lent mostBytes) (refusedBy v FewLentBytes)
     (takenOf v w))
-
--- the first n of the kept bytes, then the lent ones' own
-abbrev pub laid : ℕ → List ℕ → List ℕ → List ℕ
-laid n kept lent = take n kept ++ drop n lent
 
 -- what an event does to the lent bytes: "Until a frame is complete its bytes stay inside the reader"
 abbrev pub laidBy : Event → Inside → List ℕ → List ℕ

@@ -63,7 +63,7 @@ fn least(a: usize, b: usize) -> usize
 }
 
 // The machine that a reader holds. Its counts are bounded here, since they are places in the kept bytes.
-pub fn held_by(inside: Inside) -> Machine
+pub(crate) fn held_by(inside: Inside) -> Machine
     ensures { λ r. ⌜ r ≡ heldBy inside ⌝ }
 {
     let count = least(inside.count, MOST_BYTES);
@@ -79,7 +79,7 @@ pub fn held_by(inside: Inside) -> Machine
 }
 
 // A frame that is being heard: what the machine holds, and the bytes so far.
-pub fn inside_of(machine: Machine, kept: [u8; MOST_BYTES]) -> Inside
+pub(crate) fn inside_of(machine: Machine, kept: [u8; MOST_BYTES]) -> Inside
     ensures { λ r. ⌜ r ≡ insideOf machine kept ⌝ }
 {
     let phase = machine.phase;
@@ -94,7 +94,7 @@ pub fn inside_of(machine: Machine, kept: [u8; MOST_BYTES]) -> Inside
 }
 
 // No frame. The kept bytes stay where they are, since the next frame's overwrite them.
-pub fn outside(kept: [u8; MOST_BYTES]) -> Inside
+pub(crate) fn outside(kept: [u8; MOST_BYTES]) -> Inside
     ensures { λ r. ⌜ r ≡ outsideOf kept ⌝ }
 {
     Inside {

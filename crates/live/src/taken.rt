@@ -4,7 +4,7 @@ ghost use Prim.Native.Nat.{_≤_};
 ghost use lib.ListN.{length};
 ghost use Rattle.framing.specs.Faults.{mostBytes};
 ghost use Rattle.framing.specs.Line.{activeAt};
-ghost use Rattle.live.specs.Feeding.{behind as behindOf, beginsAnew, goesOn, laid, laidBy, stillOpen, closedFrame, faultHeard, waiting, fedBy, stepAt, endsAt};
+ghost use Rattle.live.specs.Feeding.{behind as behindOf, beginsAnew, goesOn, laidBy, stillOpen, closedFrame, faultHeard, waiting, fedBy, stepAt, endsAt};
 use crate::Fed;
 use crate::Heard;
 use crate::Live;
@@ -86,15 +86,6 @@ fn goes_on(live: Live, machine: Machine, kept: [u8; MOST_BYTES]) -> Live
     }
 }
 
-// The bytes of a frame that is closed stand first in the lent bytes, whose rest stays.
-fn lay(kept: [u8; MOST_BYTES], count: usize, lent: &mut [u8])
-    requires { ⌜ count ≤ mostBytes ⌝ }
-    requires { ⌜ mostBytes ≤ length (now lent) ⌝ }
-    ensures { λ _. ⌜ now (lent .exit) ≡ laid count kept (now (lent .entry)) ⌝ }
-{
-    bytes::copy(&kept[..count], lent);
-}
-
 // The interval decides nothing yet.
 fn going(live: Live, machine: Machine, kept: [u8; MOST_BYTES]) -> Fed
     ensures { λ r. ⌜ r ≡ stillOpen live machine kept ⌝ }
@@ -142,7 +133,7 @@ fn at_fault(live: Live, fault: Fault, end: bool) -> Fed
 }
 
 // An interval in no frame: an end is the opening, and anything else is passed over.
-pub fn outside_frame(live: Live, width: Micros) -> Fed
+pub(crate) fn outside_frame(live: Live, width: Micros) -> Fed
     ensures { λ r. ⌜ r ≡ waiting live (width .0) ⌝ }
 {
     let places = live.places;
@@ -156,7 +147,7 @@ pub fn outside_frame(live: Live, width: Micros) -> Fed
 
 // An interval in a frame: one step of the frame machine. Until the frame is closed its bytes stay in the reader, which has
 // room for each that the machine tells of.
-pub fn inside_frame(live: Live, width: Micros, lent: &mut [u8]) -> Fed
+pub(crate) fn inside_frame(live: Live, width: Micros, lent: &mut [u8]) -> Fed
     requires { ⌜ mostBytes ≤ length (now lent) ⌝ }
     ensures { λ r. ⌜ r ≡ fedBy (stepAt live (width .0) .event) live (stepAt live (width .0) .machine) (endsAt live (width .0)) ⌝ }
     ensures { λ _. ⌜ now (lent .exit) ≡ laidBy (stepAt live (width .0) .event) (live .inside) (now (lent .entry)) ⌝ }
@@ -178,7 +169,7 @@ pub fn inside_frame(live: Live, width: Micros, lent: &mut [u8]) -> Fed
             going(live, then, kept)
         }
         Event::Closed => {
-            lay(kept, count, lent);
+            machine::lay(kept, count, lent);
             closed(live, held, end)
         }
         Event::Faulty(fault) => at_fault(live, fault, end),

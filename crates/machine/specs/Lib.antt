@@ -6,6 +6,7 @@ pub mod Does
 pub mod BitDoes
 pub mod CloseDoes
 pub mod StepDoes
+pub mod Laying
 pub mod Parts
 pub mod PartLaws
 pub mod Following

@@ -4,6 +4,7 @@ mod parts;
 mod shut;
 
 pub use parts::Parts;
+pub use parts::lay;
 pub use parts::parts_of;
 ghost use mathlib.Core.Path.{_≡_};
 ghost use Prim.Native.Nat.{_<_};

@@ -1,7 +1,9 @@
-// The parts of a frame that closes: what the answer for it says of them, wherever the frame was read from.
+// The parts of a frame that closes: what the answer for it says of them, and their bytes, wherever the frame was read from.
 ghost use mathlib.Core.Path.{_≡_};
 ghost use Prim.Native.Nat.{_-_};
+ghost use Rattle.machine.specs.Laying.{laidOf};
 ghost use Rattle.machine.specs.Parts.{alone, answered, partsOf};
+use crate::MOST_BYTES;
 use crate::Machine;
 use crate::Phase;
 use framing::Lengths;
@@ -60,5 +62,18 @@ pub fn parts_of(machine: Machine) -> Parts
         Phase::Main => main_alone(machine),
         Phase::Plain => with_response(machine, Response::Plain),
         Phase::Checked => with_response(machine, Response::Checked),
+    }
+}
+
+// The bytes of the frame, which were kept aside, stand first in the lent bytes, whose rest stays. Where fewer are kept or
+// lent than are counted nothing is laid; no frame that was read comes to that.
+pub fn lay(kept: [u8; MOST_BYTES], count: usize, lent: &mut [u8])
+    ensures { λ _. ⌜ now (lent .exit) ≡ laidOf count kept (now (lent .entry)) ⌝ }
+{
+    let first = count;
+    if count <= MOST_BYTES {
+        if count <= lent.len() {
+            bytes::copy(&kept[..first], lent);
+        }
     }
 }

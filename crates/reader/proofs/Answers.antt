@@ -1,9 +1,9 @@
 -- Each answer of reading tells of the outcome that document 01 gives, from what the search and the machine have shown.
 use Prim.Native.Nat.{ℕ, _+_, _-_, _≤_, _<_}
-use mathlib.Core.Path.{_≡_, refl, ap, _∙_}
-use mathlib.Core.List.{List, _++_}
-use lib.ListN.{length, take, drop}
-use lib.Seq.{take-length, length-take-le}
+use mathlib.Core.Path.{_≡_, refl, _∙_}
+use mathlib.Core.List.{List}
+use native.Mathlib.Omega.{arith}
+use lib.ListN.{length}
 use borrow.Author.Tests.{le-leb, lt-leb, lt-ltb, le-ltb}
 use Rattle.framing.specs.declared.Fault.{Fault}
 use Rattle.framing.specs.declared.Reading.{Reading}
@@ -15,10 +15,11 @@ use Rattle.framing.specs.Reading.{faultAt, decides, decided, readBy, reading}
 use Rattle.framing.specs.Answers.{faultNumber, ReadPromise}
 use Rattle.machine.specs.declared.Machine.{Machine}
 use Rattle.machine.specs.HoldingLaws.{count-of}
+use Rattle.machine.specs.Laying.{laidOf, laid-enough}
 use Rattle.machine.specs.Parts.{partsOf}
 use Rattle.machine.specs.PartLaws.{parts-held}
-use Rattle.machine.specs.Following.{Before, some-fault}
-use Rattle.reader.specs.Answering.{placed, frameOf, laid, Meets}
+use Rattle.machine.specs.Following.{Before, some-fault, held-few}
+use Rattle.reader.specs.Answering.{placed, frameOf, Meets}
 
 -- ## The decision
 
@@ -32,18 +33,10 @@ module _ (ws : List ℕ) (o : ℕ) (entry lent : List ℕ) (as-lent : lent ≡ e
   faulty-meets k f e g = rw (as-lent, e, g, some-fault f) (record { tells-it = refl; lends-it = refl })
 
   pub closed-meets : (k : ℕ) (m : Machine) (kept exit : List ℕ) (r : Reading) → firstIn (decides ws o) (o + 1) (length ws) ≡ at k
-      → faultAt ws o k ≡ 0 → Before ws o k m kept → exit ≡ laid (m .count) kept lent → r ≡ frameOf (partsOf m) o k → Meets (decided ws o) entry exit r
-  closed-meets k m kept exit r e g v x y =
-      rw (y, x, as-lent, e, g, v .holds, parts-held (stands ws o k), count-of (stands ws o k), v .keeps .first)
+      → faultAt ws o k ≡ 0 → Before ws o k m kept → mostBytes ≤ length lent → exit ≡ laidOf (m .count) kept lent → r ≡ frameOf (partsOf m) o k → Meets (decided ws o) entry exit r
+  closed-meets k m kept exit r e g v enough x y =
+      rw (y, x ∙ laid-enough (m .count) kept lent (held-few ws o k m kept v) (omega (arith, enough, held-few ws o k m kept v)), as-lent, e, g, v .holds, parts-held (stands ws o k), count-of (stands ws o k), v .keeps .first)
       (record { tells-it = refl; lends-it = refl })
-
--- ## The kept bytes and the lent ones
-
-pub laid-first : (n : ℕ) (kept lent : List ℕ) → n ≤ length kept
-    → take (length (take n kept)) (take n kept) ++ drop (length (take n kept)) lent ≡ laid n kept lent
-laid-first n kept lent h =
-    ap (λ (l : List ℕ). l ++ drop (length (take n kept)) lent) (take-length (take n kept))
-    ∙ ap (λ (j : ℕ). take n kept ++ drop j lent) (length-take-le n kept h)
 
 -- ## Quiet
 

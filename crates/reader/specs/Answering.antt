@@ -1,8 +1,7 @@
 -- What the pieces of reading answer: the search for an opening, the frame that is closed, and the lent bytes.
 use Prim.Native.Nat.{ℕ}
 use mathlib.Core.Path.{_≡_}
-use mathlib.Core.List.{List, _++_}
-use lib.ListN.{take, drop}
+use mathlib.Core.List.{List}
 use Rattle.units.specs.declared.Place.{Place}
 use Rattle.framing.specs.declared.Reading.{Reading}
 use Rattle.framing.specs.declared.Reading.the-variants.{Frame}
@@ -25,10 +24,6 @@ placed i = record { 0 = i }
 -- a good frame, by its parts and its places
 abbrev pub frameOf : Parts → (opening closing : ℕ) → Reading
 frameOf p opening closing = Frame (p .lengths) (p .response) (placed opening) (placed closing)
-
--- the first n of the kept bytes, then the lent ones' own
-abbrev pub laid : ℕ → List ℕ → List ℕ → List ℕ
-laid n kept lent = take n kept ++ drop n lent
 
 -- the answer and the lent bytes at exit tell of an outcome
 pub record Meets (outcome : Outcome) (entry exit : List ℕ) (answer : Reading) : Type 0 where

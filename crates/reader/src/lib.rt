@@ -9,7 +9,7 @@ ghost use Rattle.framing.specs.Line.{at, opening as openingOf};
 ghost use Rattle.framing.specs.Reading.{decided, readBy};
 ghost use Rattle.framing.specs.Answers.{ReadPromise};
 ghost use Rattle.machine.specs.Parts.{partsOf};
-ghost use Rattle.reader.specs.Answering.{foundBy, frameOf, laid, Meets};
+ghost use Rattle.reader.specs.Answering.{foundBy, frameOf, Meets};
 use framing::Reading;
 use machine::Event;
 use machine::MOST_BYTES;
@@ -56,15 +56,6 @@ fn framed(machine: Machine, opening: usize, closing: usize) -> Reading
     }
 }
 
-// The bytes of a frame that is closed stand first in the lent bytes, whose rest stays.
-fn lay(kept: [u8; MOST_BYTES], count: usize, lent: &mut [u8])
-    requires { ⌜ count ≤ mostBytes ⌝ }
-    requires { ⌜ mostBytes ≤ length (now lent) ⌝ }
-    ensures { λ _. ⌜ now (lent .exit) ≡ laid count kept (now (lent .entry)) ⌝ }
-{
-    bytes::copy(&kept[..count], lent);
-}
-
 // The frame that opens at a place with an interval behind it: the first interval that is at fault or closes it decides.
 fn read_open(intervals: &[u32], opening: usize, lent: &mut [u8]) -> Reading
     requires { ⌜ opening < length (now intervals) ⌝ }
@@ -88,7 +79,7 @@ fn read_open(intervals: &[u32], opening: usize, lent: &mut [u8]) -> Reading
             }
             Event::Closed => {
                 let count = held.count;
-                lay(kept, count, lent);
+                machine::lay(kept, count, lent);
                 return framed(held, opening, i);
             }
             Event::Faulty(fault) => {

@@ -7,7 +7,7 @@ use native.Mathlib.Omega.{arith}
 use lib.ListN.{length}
 use Rattle.framing.specs.Line.{firstIn, symbolAt}
 use Rattle.framing.specs.Reading.{decides}
-use Rattle.machine.specs.Following.{Before, at-first, held-few, says-by}
+use Rattle.machine.specs.Following.{Before, at-first, says-by}
 use Rattle.reader.proofs.Searching.{decides-here, decides-none}
 use Rattle.reader.proofs.Answers.{unfinished-meets, faulty-meets, closed-meets}
 use borrow.Author.Needs.{needs}
@@ -55,8 +55,7 @@ enum-told-2 : tie.Need-enum-told-2 Inv-loop μ-loop
 enum-told-2 c = search needs
 
 lay-requires : tie.Need-lay-requires Inv-loop μ-loop
-unfolding symbolAt
-lay-requires c κs = let v = says-by _ _ _ _ _ (c .before .before .before .before .before .before .before .before .loop .inv .2) _ _ _ (c .before .before .before .before .before .class .ensures) (c .before .before .before .before .step .ensures) (c .before .enum-told2 .given .1) in (held-few _ _ _ _ _ (v .1 .1), rw (c .before .before .before .before .before .before .before .before .loop .inv .1) (c .before .before .before .before .before .before .before .before .before .before .before .before .pre .1))
+lay-requires c κs = search needs
 
 framed-requires : tie.Need-framed-requires Inv-loop μ-loop
 framed-requires c κs = search needs
@@ -66,7 +65,7 @@ same-length c = omega (arith, ap length (c .before .before .before .before .befo
 
 returns : tie.Need-returns Inv-loop μ-loop
 unfolding symbolAt
-returns c = let v = says-by _ _ _ _ _ (c .before .before .before .before .before .before .before .before .before .before .before .before .loop .inv .2) _ _ _ (c .before .before .before .before .before .before .before .before .before .class .ensures) (c .before .before .before .before .before .before .before .before .step .ensures) (c .before .before .before .before .before .enum-told2 .given .1) in closed-meets _ _ _ _ (c .before .before .before .before .before .before .before .before .before .before .before .before .loop .inv .1) _ _ _ _ _ (c .before .before .before .before .before .before .before .before .before .before .before .before .loop .inv .3 ∙ decides-here _ _ _ _ (c .before .before .before .before .before .before .before .before .before .before .before .loop-test .taken) (v .0)) (v .1 .0) (v .1 .1) (c .before .before .before .lay .ensures) (c .framed .ensures)
+returns c = let v = says-by _ _ _ _ _ (c .before .before .before .before .before .before .before .before .before .before .before .before .loop .inv .2) _ _ _ (c .before .before .before .before .before .before .before .before .before .class .ensures) (c .before .before .before .before .before .before .before .before .step .ensures) (c .before .before .before .before .before .enum-told2 .given .1) in closed-meets _ _ _ _ (c .before .before .before .before .before .before .before .before .before .before .before .before .loop .inv .1) _ _ _ _ _ (c .before .before .before .before .before .before .before .before .before .before .before .before .loop .inv .3 ∙ decides-here _ _ _ _ (c .before .before .before .before .before .before .before .before .before .before .before .loop-test .taken) (v .0)) (v .1 .0) (v .1 .1) (rw (c .before .before .before .before .before .before .before .before .before .before .before .before .loop .inv .1) (c .before .before .before .before .before .before .before .before .before .before .before .before .before .before .before .before .pre .1)) (c .before .before .before .lay .ensures) (c .framed .ensures)
 
 enum-known-event-2 : tie.Need-enum-known-event-2 Inv-loop μ-loop
 enum-known-event-2 c = search needs

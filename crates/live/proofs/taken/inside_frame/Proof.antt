@@ -1,6 +1,7 @@
 -- `live::inside_frame` meets its contract: each arm is the line of the definition for its event.
+use denote.Ref.{now}
 use mathlib.Core.Path.{_∙_}
-use Rattle.live.proofs.Events.{held-few, steps-by, fed-by, laid-by}
+use Rattle.live.proofs.Events.{laid-held, steps-by, fed-by, laid-by}
 use Rattle.live.proofs.Room.{has-room}
 use borrow.Author.Needs.{needs}
 use Rattle.live.proofs.taken.inside_frame.Statement.{statement}
@@ -40,7 +41,7 @@ enum-told-2 : tie.Need-enum-told-2
 enum-told-2 c = search needs
 
 lay-requires : tie.Need-lay-requires
-lay-requires c κs = (rw (c .before .before .before .before .before .before .held-by .ensures) (held-few _), search needs)
+lay-requires c κs = search needs
 
 closed-requires : tie.Need-closed-requires
 closed-requires c κs = search needs
@@ -61,7 +62,7 @@ same-length : tie.Need-same-length
 same-length c = search needs
 
 returns-3 : tie.Need-returns-3
-returns-3 c = let a = c .before .before .before .before .before .before .before .before .before .before .before .before .before .before .before .before .before .args in let s = steps-by (a .live) (a .width .0) _ _ _ _ _ (c .before .before .before .before .before .before .before .before .before .before .before .before .active-at .ensures) (c .before .before .before .before .before .before .before .before .before .before .before .is-end .ensures) (c .before .before .before .before .before .before .before .before .before .before .held-by .ensures) (c .before .before .before .before .before .before .before .before .before .class .ensures) (c .before .before .before .before .before .before .before .before .step .ensures) in (rw (c .before .before .before .before .before .before .before .before .before .before .held-by .ensures) at (c .closed .ensures) ∙ fed-by _ _ _ _ s _ (c .before .before .before .before .before .enum-told2 .given .1), rw (c .before .before .before .before .before .before .before .before .before .before .held-by .ensures) at (c .before .before .before .lay .ensures) ∙ laid-by _ _ _ _ s _ (c .before .before .before .before .before .enum-told2 .given .1) _)
+returns-3 c = let a = c .before .before .before .before .before .before .before .before .before .before .before .before .before .before .before .before .before .args in let s = steps-by (a .live) (a .width .0) _ _ _ _ _ (c .before .before .before .before .before .before .before .before .before .before .before .before .active-at .ensures) (c .before .before .before .before .before .before .before .before .before .before .before .is-end .ensures) (c .before .before .before .before .before .before .before .before .before .before .held-by .ensures) (c .before .before .before .before .before .before .before .before .before .class .ensures) (c .before .before .before .before .before .before .before .before .step .ensures) in (rw (c .before .before .before .before .before .before .before .before .before .before .held-by .ensures) at (c .closed .ensures) ∙ fed-by _ _ _ _ s _ (c .before .before .before .before .before .enum-told2 .given .1), rw (c .before .before .before .before .before .before .before .before .before .before .held-by .ensures) at (c .before .before .before .lay .ensures) ∙ laid-held (a .live .inside) (now (a .lent)) (c .before .before .before .before .before .before .before .before .before .before .before .before .before .before .before .before .before .pre) ∙ laid-by _ _ _ _ s _ (c .before .before .before .before .before .enum-told2 .given .1) _)
 
 returns-4 : tie.Need-returns-4
 returns-4 c = let a = c .before .before .before .before .before .before .before .before .before .before .before .before .before .before .args in let s = steps-by (a .live) (a .width .0) _ _ _ _ _ (c .before .before .before .before .before .before .before .before .before .active-at .ensures) (c .before .before .before .before .before .before .before .before .is-end .ensures) (c .before .before .before .before .before .before .before .held-by .ensures) (c .before .before .before .before .before .before .class .ensures) (c .before .before .before .before .before .step .ensures) in (c .at-fault .ensures ∙ fed-by _ _ _ _ s _ (c .before .before .event2 .given .1), laid-by _ _ _ _ s _ (c .before .before .event2 .given .1) _)
