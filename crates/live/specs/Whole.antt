@@ -1,62 +1,104 @@
 -- Live reading is reading: the answers to the intervals of a recording, one after the other and however they are cut into
--- deliveries, and then the answer when asked, are those of reading the whole recording on from its start.
+-- deliveries, with the bytes of their frames, and then the answer when asked, are those of reading the whole recording on
+-- from its start.
 use Prim.Native.Nat.{ℕ, _+_, _≤_}
+use mathlib.Core.Bool.{false}
 use mathlib.Core.Path.{_≡_, refl, sym, ap, subst, _∙_}
 use mathlib.Core.List.{List, [], _∷_, _++_, map, append-nil, append-assoc}
 use native.Mathlib.Omega.{arith}
-use lib.ListN.{length, replicate, length-append}
-use borrow.Author.Tests.{le-ltb}
+use lib.ListN.{length, take, drop, length-append}
+use lib.Seq.{take-at}
+use Rattle.laws.specs.Tests.{never}
 use Rattle.framing.specs.Faults.{mostBytes}
-use Rattle.framing.specs.Reading.{Outcome, reading}
-use Rattle.framing.specs.Answers.{Told, tells}
+use Rattle.framing.specs.Reading.{Outcome, good, quiet, unfinished, faulty, refused, reading}
+use Rattle.framing.specs.Answers.{Told, tells, written, lentAfter}
+use Rattle.framing.specs.Outcomes.{goesOn}
 use Rattle.framing.specs.ReadingOn.{ReadsOn, last, more, reads-once}
 use Rattle.live.specs.declared.Live.{Live}
-use Rattle.live.specs.Feeding.{lastPlace, started, fedOf, askedOf}
+use Rattle.live.specs.Feeding.{lastPlace, started, fedOf, lentOf, askedOf}
 use Rattle.live.specs.Hearing.{toldBy, askedTold, Reached, none-yet, one-more, Hears, Takes, decides-nothing, decides-one}
 use Rattle.live.specs.Heard.{starts, takes-it}
 use Rattle.live.specs.Asking.{asks}
 
 -- ## Intervals one after the other
 
--- the reader behind them
-abbrev pub afterAll : Live → List ℕ → Live
+-- one interval as it comes: its width, and the bytes that are lent for it
+pub record Comes : Type 0 where
+  pub width : ℕ
+  pub lent : List ℕ
+
+-- the recording that intervals make up
+abbrev pub recording : List Comes → List ℕ
+recording is = map (λ (i : Comes). i .width) is
+
+-- bytes enough are lent for each
+pub data Enough : List Comes → Type 0 where
+  none : Enough []
+  also : {i : Comes} {is : List Comes} → mostBytes ≤ length (i .lent) → Enough is → Enough (i ∷ is)
+
+-- an answer, and the bytes that it tells of
+pub record Shown : Type 0 where
+  pub told : Told
+  pub bytes : List ℕ
+
+-- the reader behind an interval, and behind some
+abbrev pub afterOne : Live → Comes → Live
+afterOne v i = fedOf v (i .width) (length (i .lent)) .live
+
+abbrev pub afterAll : Live → List Comes → Live
 afterAll v [] = v
-afterAll v (w ∷ ws) = afterAll (fedOf v w mostBytes .live) ws
+afterAll v (i ∷ is) = afterAll (afterOne v i) is
 
--- what they answer, with twelve bytes lent to each
-abbrev pub toldAll : Live → List ℕ → List Told
-toldAll v [] = []
-toldAll v (w ∷ ws) = toldBy (fedOf v w mostBytes .heard) ++ toldAll (fedOf v w mostBytes .live) ws
+-- what an answer shows: as many of the lent bytes, from the first on, as it tells of
+abbrev pub shown : (exit : List ℕ) → Told → Shown
+shown exit t = record { told = t; bytes = take (t .mainLength + t .responseLength) exit }
 
--- More bytes lent change no answer.
-pub lent-more : (v : Live) (w lent : ℕ) → mostBytes ≤ lent → fedOf v w lent ≡ fedOf v w mostBytes
-unfolding fedOf
-lent-more v w lent h = rw (le-ltb lent mostBytes h)
+-- what an interval shows, and what some do
+abbrev pub showsOne : Live → Comes → List Shown
+showsOne v i = map (shown (lentOf v (i .width) (i .lent))) (toldBy (fedOf v (i .width) (length (i .lent)) .heard))
 
--- what a reader tells over some intervals, by what it then knows
-pub record Tells (ws : List ℕ) (xs : List Outcome) (after : Live) (told : List Told) : Type 0 where
+abbrev pub showsAll : Live → List Comes → List Shown
+showsAll v [] = []
+showsAll v (i ∷ is) = showsOne v i ++ showsAll (afterOne v i) is
+
+-- what reading shows: its answer, and the bytes that it writes
+abbrev pub reads : Outcome → Shown
+reads x = record { told = tells x; bytes = written x }
+
+-- The bytes that an answer tells of are those that stand first in the lent bytes behind it.
+stands-first : (x : Outcome) (entry : List ℕ) → shown (lentAfter x entry) (tells x) ≡ reads x
+stands-first (good main response kind o k) entry =
+    ap (λ (l : List ℕ). record { told = tells (good main response kind o k); bytes = l })
+    (take-at (main ++ response) (drop (length (main ++ response)) entry) (length main + length response) (length-append main response))
+stands-first (quiet k) entry = refl
+stands-first (unfinished o) entry = refl
+stands-first (faulty n k) entry = refl
+stands-first (refused n) entry = refl
+
+-- what a reader shows over some intervals, by what it then knows
+pub record Shows (ws : List ℕ) (xs : List Outcome) (after : Live) (shows : List Shown) : Type 0 where
   pub new : List Outcome
   pub knows : Hears ws (xs ++ new) after
-  pub says : told ≡ map tells new
+  pub says : shows ≡ map reads new
 
-pub hears-all : (ws done : List ℕ) (xs : List Outcome) (v : Live) → Hears done xs v → length done + length ws ≤ lastPlace + 1
-    → Tells (done ++ ws) xs (afterAll v ws) (toldAll v ws)
-hears-all [] done xs v h fits =
+pub hears-all : (is : List Comes) → Enough is → (done : List ℕ) (xs : List Outcome) (v : Live) → Hears done xs v → length done + length is ≤ lastPlace + 1
+    → Shows (done ++ recording is) xs (afterAll v is) (showsAll v is)
+hears-all [] none done xs v h fits =
     record { new = []; knows = rw (append-nil done, append-nil xs) h; says = refl }
-hears-all (w ∷ ws) done xs v h fits =
-    go (takes-it done xs v h w (omega arith) (replicate mostBytes 0) (omega arith))
-    (λ ys k. hears-all ws (done ++ (w ∷ [])) ys (fedOf v w mostBytes .live) k left)
+hears-all (i ∷ is) (also few rest) done xs v h fits =
+    go (takes-it done xs v h (i .width) (omega arith) (i .lent) few)
+    (λ ys k. hears-all is rest (done ++ (i .width ∷ [])) ys (afterOne v i) k left)
   where
-    assoc : (done ++ (w ∷ [])) ++ ws ≡ done ++ (w ∷ ws)
-    assoc = append-assoc done (w ∷ []) ws
+    assoc : (done ++ (i .width ∷ [])) ++ recording is ≡ done ++ (i .width ∷ recording is)
+    assoc = append-assoc done (i .width ∷ []) (recording is)
 
-    left : length (done ++ (w ∷ [])) + length ws ≤ lastPlace + 1
-    left = omega (arith, length-append done (w ∷ []))
+    left : length (done ++ (i .width ∷ [])) + length is ≤ lastPlace + 1
+    left = omega (arith, length-append done (i .width ∷ []))
 
-    go : {exit : List ℕ} → Takes done xs w (replicate mostBytes 0) exit (fedOf v w mostBytes)
-        → ((ys : List Outcome) → Hears (done ++ (w ∷ [])) ys (fedOf v w mostBytes .live)
-        → Tells ((done ++ (w ∷ [])) ++ ws) ys (afterAll (fedOf v w mostBytes .live) ws) (toldAll (fedOf v w mostBytes .live) ws))
-        → Tells (done ++ (w ∷ ws)) xs (afterAll (fedOf v w mostBytes .live) ws) (toldBy (fedOf v w mostBytes .heard) ++ toldAll (fedOf v w mostBytes .live) ws)
+    go : Takes done xs (i .width) (i .lent) (lentOf v (i .width) (i .lent)) (fedOf v (i .width) (length (i .lent)))
+        → ((ys : List Outcome) → Hears (done ++ (i .width ∷ [])) ys (afterOne v i)
+        → Shows ((done ++ (i .width ∷ [])) ++ recording is) ys (afterAll (afterOne v i) is) (showsAll (afterOne v i) is))
+        → Shows (done ++ (i .width ∷ recording is)) xs (afterAll (afterOne v i) is) (showsOne v i ++ showsAll (afterOne v i) is)
     go (decides-nothing t e k) on =
         let r = on xs k in
         record { new = r .new; knows = rw (← assoc) (r .knows); says = rw t (r .says) }
@@ -65,7 +107,7 @@ hears-all (w ∷ ws) done xs v h fits =
         record {
           new = x ∷ r .new;
           knows = rw (← assoc, ← (append-assoc xs (x ∷ []) (r .new))) (r .knows);
-          says = rw (t, r .says);
+          says = rw (t, e, stands-first x (i .lent), r .says);
         }
 
 -- ## Reading the whole recording
@@ -76,41 +118,55 @@ reads-from none-yet r = r
 reads-from {ws} {ys = ys} (one-more {p} {xs} q g) r =
     subst (ReadsOn ws mostBytes 0) (sym (append-assoc xs (reading ws p mostBytes ∷ []) ys)) (reads-from q (more g r))
 
-map-last : (xs : List Outcome) (x : Outcome) → map tells (xs ++ (x ∷ [])) ≡ map tells xs ++ (tells x ∷ [])
+map-last : (xs : List Outcome) (x : Outcome) → map reads (xs ++ (x ∷ [])) ≡ map reads xs ++ (reads x ∷ [])
 map-last [] x = refl
-map-last (y ∷ xs) x = ap (λ (l : List Told). tells y ∷ l) (map-last xs x)
+map-last (y ∷ xs) x = ap (λ (l : List Shown). reads y ∷ l) (map-last xs x)
 
--- What a started reader answers to the intervals of a recording, and then when asked, is what reading on from 0 answers:
--- the same frames and faults with the same places, in the same order, then quiet or unfinished.
-pub live-whole : (ws : List ℕ) → length ws ≤ lastPlace + 1 → (zs : List Outcome) → ReadsOn ws mostBytes 0 zs
-    → toldAll started ws ++ (askedTold (askedOf (afterAll started ws)) ∷ []) ≡ map tells zs
-live-whole ws fits zs r =
-    let t : Tells ws [] (afterAll started ws) (toldAll started ws) = hears-all ws [] [] started starts (omega (arith, fits)) in
-    let a = asks ws (t .new) (afterAll started ws) (t .knows) in
-    let whole : ReadsOn ws mostBytes 0 (t .new ++ (reading ws (afterAll started ws .places .from) mostBytes ∷ [])) = reads-from (t .knows .reached) (last (a .1)) in
-    rw (t .says, a .0)
-    (sym (map-last (t .new) (reading ws (afterAll started ws .places .from) mostBytes)) ∙ ap (map tells) (reads-once whole r))
+-- what asking shows: no bytes
+abbrev pub showsAsked : Live → Shown
+showsAsked v = record { told = askedTold (askedOf v); bytes = [] }
+
+-- no frame and no fault has bytes
+shows-end : (x : Outcome) (t : Told) → t ≡ tells x → goesOn x ≡ false → _≡_ {A = Shown} (record { told = t; bytes = [] }) (reads x)
+shows-end (good main response kind o k) t e g = never refl g
+shows-end (quiet k) t e g = rw e
+shows-end (unfinished o) t e g = rw e
+shows-end (faulty n k) t e g = never refl g
+shows-end (refused n) t e g = rw e
+
+-- What a started reader shows at the intervals of a recording, and then when asked, is what reading on from 0 shows: the same
+-- frames and faults with the same places and bytes, in the same order, then quiet or unfinished.
+pub live-whole : (is : List Comes) → Enough is → length is ≤ lastPlace + 1 → (zs : List Outcome) → ReadsOn (recording is) mostBytes 0 zs
+    → showsAll started is ++ (showsAsked (afterAll started is) ∷ []) ≡ map reads zs
+live-whole is enough fits zs r =
+    let t : Shows (recording is) [] (afterAll started is) (showsAll started is) = hears-all is enough [] [] started starts (omega (arith, fits)) in
+    let rest : Outcome = reading (recording is) (afterAll started is .places .from) mostBytes in
+    let a = asks (recording is) (t .new) (afterAll started is) (t .knows) in
+    let whole : ReadsOn (recording is) mostBytes 0 (t .new ++ (rest ∷ [])) = reads-from (t .knows .reached) (last (a .1)) in
+    ap (λ (l : List Shown). l ++ (showsAsked (afterAll started is) ∷ [])) (t .says)
+    ∙ ap (λ (y : Shown). map reads (t .new) ++ (y ∷ [])) (shows-end rest (askedTold (askedOf (afterAll started is))) (a .0) (a .1))
+    ∙ sym (map-last (t .new) rest) ∙ ap (map reads) (reads-once whole r)
 
 -- ## Deliveries
 
 -- all intervals of some deliveries
-abbrev pub joined : List (List ℕ) → List ℕ
+abbrev pub joined : List (List Comes) → List Comes
 joined [] = []
 joined (d ∷ ds) = d ++ joined ds
 
--- what deliveries answer, one after the other
-abbrev pub toldIn : Live → List (List ℕ) → List Told
-toldIn v [] = []
-toldIn v (d ∷ ds) = toldAll v d ++ toldIn (afterAll v d) ds
+-- what deliveries show, one after the other
+abbrev pub showsIn : Live → List (List Comes) → List Shown
+showsIn v [] = []
+showsIn v (d ∷ ds) = showsAll v d ++ showsIn (afterAll v d) ds
 
-told-append : (v : Live) (a b : List ℕ) → toldAll v (a ++ b) ≡ toldAll v a ++ toldAll (afterAll v a) b
-told-append v [] b = refl
-told-append v (w ∷ a) b =
-    ap (λ (l : List Told). toldBy (fedOf v w mostBytes .heard) ++ l) (told-append (fedOf v w mostBytes .live) a b)
-    ∙ sym (append-assoc (toldBy (fedOf v w mostBytes .heard)) (toldAll (fedOf v w mostBytes .live) a) (toldAll (afterAll (fedOf v w mostBytes .live) a) b))
+shows-append : (v : Live) (a b : List Comes) → showsAll v (a ++ b) ≡ showsAll v a ++ showsAll (afterAll v a) b
+shows-append v [] b = refl
+shows-append v (i ∷ a) b =
+    ap (λ (l : List Shown). showsOne v i ++ l) (shows-append (afterOne v i) a b)
+    ∙ sym (append-assoc (showsOne v i) (showsAll (afterOne v i) a) (showsAll (afterAll (afterOne v i) a) b))
 
--- However the intervals are cut into deliveries, the answers are the same.
-pub deliveries : (v : Live) (ds : List (List ℕ)) → toldIn v ds ≡ toldAll v (joined ds)
+-- However the intervals are cut into deliveries, they show the same.
+pub deliveries : (v : Live) (ds : List (List Comes)) → showsIn v ds ≡ showsAll v (joined ds)
 deliveries v [] = refl
 deliveries v (d ∷ ds) =
-    ap (λ (l : List Told). toldAll v d ++ l) (deliveries (afterAll v d) ds) ∙ sym (told-append v d (joined ds))
+    ap (λ (l : List Shown). showsAll v d ++ l) (deliveries (afterAll v d) ds) ∙ sym (shows-append v d (joined ds))
