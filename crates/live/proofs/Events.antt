@@ -18,18 +18,10 @@ use Rattle.machine.specs.Steps.{stepOf}
 use Rattle.machine.specs.Laying.{laid, laidOf, laid-enough}
 use Rattle.live.specs.declared.Inside.{Inside}
 use Rattle.live.specs.declared.Live.{Live}
-use Rattle.live.specs.Feeding.{least, heldBy, fedBy, laidBy, stepAt, endsAt}
+use Rattle.live.specs.AnyReader.{held-few}
+use Rattle.live.specs.Feeding.{heldBy, fedBy, laidBy, stepAt, endsAt}
 
--- a reader holds no more bytes than a frame has
-pub held-few : (i : Inside) → heldBy i .count ≤ mostBytes
-unfolding heldBy
-held-few i = go (leb (i .count) mostBytes) refl
-  where
-    go : (b : Bool) → leb (i .count) mostBytes ≡ b → least (i .count) mostBytes ≤ mostBytes
-    go true e = rw e (leb-true _ _ e)
-    go false e = rw e (omega arith)
-
--- so that twelve lent bytes have room for all of them
+-- twelve lent bytes have room for all that a reader holds
 pub laid-held : (i : Inside) (lent : List ℕ) → mostBytes ≤ length lent → laidOf (heldBy i .count) (i .kept) lent ≡ laid (heldBy i .count) (i .kept) lent
 laid-held i lent h = laid-enough (heldBy i .count) (i .kept) lent (held-few i) (omega (arith, h, held-few i))
 

@@ -1,2 +1,1 @@
 mod Events
-mod Room

@@ -23,7 +23,8 @@ use Rattle.machine.specs.Holding.{phaseOf, holding}
 use Rattle.live.specs.declared.Inside.{Inside}
 use Rattle.live.specs.declared.Live.{Live}
 use Rattle.live.specs.Feeding.{phaseNumber, insideOf, outside, askedOf}
-use Rattle.live.specs.Hearing.{askedTold, Rest, seeks, hears, Hears}
+use Rattle.live.specs.Answers.{askedTold}
+use Rattle.live.specs.Hearing.{Rest, seeks, hears, Hears}
 use Rattle.live.specs.Taking.{reached-in}
 
 -- Behind the SOF's place the machine is in a later phase.

@@ -35,11 +35,18 @@ use Rattle.live.specs.declared.Asked.the-variants.{Quiet, Unfinished}
 abbrev pub lastPlace : ℕ
 lastPlace = 18446744073709551615
 
+-- what a reader's phase is where it hears no frame, and what says that the last place has been heard
+abbrev pub noFrame : ℕ
+noFrame = 0
+
+abbrev pub allHeard : ℕ
+allHeard = 1
+
 -- a place by its number
 abbrev pub longPlace : ℕ → LongPlace
 longPlace k = record { 0 = k }
 
--- the number of each phase of the frame machine in a reader; 0 is a reader that has no opening yet
+-- the number of each phase of the frame machine in a reader that hears a frame
 abbrev pub phaseNumber : Phase → ℕ
 phaseNumber Sof = 1
 phaseNumber Main = 2
@@ -74,7 +81,7 @@ insideOf m kept =
 
 -- no frame
 unfoldable pub outside : List ℕ → Inside
-outside kept = record { count = 0; began = 0; kept = kept; phase = 0; partial = 0; register = 0 }
+outside kept = record { count = 0; began = 0; kept = kept; phase = noFrame; partial = 0; register = 0 }
 
 -- the places behind an interval, with the position from which reading goes on and the opening
 unfoldable pub behind : Places → (from opening : ℕ) → Places
@@ -83,7 +90,7 @@ behind p from opening =
       next = cond (eqb (p .next) lastPlace) (p .next) (p .next + 1);
       from = from;
       opening = opening;
-      full = cond (eqb (p .next) lastPlace) 1 0;
+      full = cond (eqb (p .next) lastPlace) allHeard 0;
     }
 
 -- a reader that has heard nothing
@@ -93,7 +100,8 @@ started =
 
 -- ## One interval
 
--- The reader behind an interval outside of a frame, or one that ends a frame: an end opens the next.
+-- The reader behind an interval outside of a frame, or one that ends a frame: "A closing end may thus open the next frame", and
+-- so may an end at fault.
 unfoldable pub beginsAnew : Live → (from : ℕ) → (end : Bool) → Live
 beginsAnew v from true =
     record { places = behind (v .places) from (v .places .next); inside = insideOf fresh (v .inside .kept) }
@@ -144,7 +152,7 @@ waiting v w = record { heard = Nothing; live = beginsAnew v (v .places .from) (e
 -- an interval that is not refused
 unfoldable pub takenOf : Live → ℕ → Fed
 takenOf v w =
-    cond (eqb (v .inside .phase) 0) (waiting v w)
+    cond (eqb (v .inside .phase) noFrame) (waiting v w)
     (fedBy (stepAt v w .event) v (stepAt v w .machine) (endsAt v w))
 
 -- an interval that is refused
@@ -171,7 +179,7 @@ unfoldable pub lentOf : Live → (w : ℕ) → List ℕ → List ℕ
 lentOf v w lent =
     cond (not (eqb (v .places .full) 0)) lent
     (cond (ltb (length lent) mostBytes) lent
-    (cond (eqb (v .inside .phase) 0) lent
+    (cond (eqb (v .inside .phase) noFrame) lent
     (laidBy (stepAt v w .event) (v .inside) lent)))
 
 -- ## Asking

@@ -1,4 +1,4 @@
--- What a reader that has heard intervals answers to the next one, refusals included, and when it is asked.
+-- A reader that was started, and the next interval, where it is taken.
 use Prim.Native.Nat.{ℕ, _≤_}
 use mathlib.Core.Path.{_≡_, refl, sym, ap, _∙_}
 use mathlib.Core.Bool.{true, false}
@@ -16,7 +16,7 @@ use Rattle.machine.specs.declared.Phase.the-variants.{Sof, Main, Normalization,
 use Rattle.machine.specs.declared.Machine.{Machine}
 use Rattle.live.specs.declared.Inside.{Inside}
 use Rattle.live.specs.declared.Live.{Live}
-use Rattle.live.specs.Feeding.{lastPlace, phaseNumber, insideOf, outside, started, endsAt, takenOf, fedOf, lentOf}
+use Rattle.live.specs.Feeding.{lastPlace, noFrame, phaseNumber, insideOf, outside, started, endsAt, takenOf, fedOf, lentOf}
 use Rattle.live.specs.Hearing.{none-yet, Counts, room, all-heard, Rest, seeks, hears, Hears, Takes, decides-nothing}
 use Rattle.live.specs.Opening.{begins-hears}
 use Rattle.live.specs.Taking.{reached-in, on, long, end-here, reached-on, none-still, takes-next}
@@ -29,14 +29,14 @@ starts =
 
 -- ## The next interval
 
-some-phase : (p : Phase) → eqb (phaseNumber p) 0 ≡ false
+some-phase : (p : Phase) → eqb (phaseNumber p) noFrame ≡ false
 some-phase Sof = refl
 some-phase Main = refl
 some-phase Normalization = refl
 some-phase Plain = refl
 some-phase Checked = refl
 
-out-of-frame : {i : Inside} (kept : List ℕ) → i ≡ outside kept → eqb (i .phase) 0 ≡ true
+out-of-frame : {i : Inside} (kept : List ℕ) → i ≡ outside kept → eqb (i .phase) noFrame ≡ true
 unfolding outside
 out-of-frame kept e = rw e
 
@@ -44,7 +44,7 @@ kept-outside : {i : Inside} (kept : List ℕ) → i ≡ outside kept → i .kept
 unfolding outside
 kept-outside kept e = rw e
 
-in-frame : {i : Inside} (m : Machine) (kept : List ℕ) → i ≡ insideOf m kept → eqb (i .phase) 0 ≡ false
+in-frame : {i : Inside} (m : Machine) (kept : List ℕ) → i ≡ insideOf m kept → eqb (i .phase) noFrame ≡ false
 unfolding insideOf
 in-frame m kept e = rw e (some-phase (m .phase))
 

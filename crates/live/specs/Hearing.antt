@@ -8,7 +8,7 @@ use lib.ListN.{length}
 use Rattle.framing.specs.Line.{nowhere, at, firstIn, opening}
 use Rattle.framing.specs.Faults.{mostBytes}
 use Rattle.framing.specs.Reading.{Outcome, decides, reading}
-use Rattle.framing.specs.Answers.{faultNumber, Told, bare, tells, lentAfter}
+use Rattle.framing.specs.Answers.{tells, lentAfter}
 use Rattle.framing.specs.Outcomes.{goesOn}
 use Rattle.framing.specs.ReadingOn.{nextOf}
 use Rattle.machine.specs.declared.Machine.{Machine}
@@ -16,30 +16,9 @@ use Rattle.machine.specs.Following.{Before}
 use Rattle.live.specs.declared.Places.{Places}
 use Rattle.live.specs.declared.Inside.{Inside}
 use Rattle.live.specs.declared.Live.{Live}
-use Rattle.live.specs.declared.Heard.{Heard}
-use Rattle.live.specs.declared.Heard.the-variants.{Nothing, Frame, Faulty, PastPlaces, FewLentBytes}
 use Rattle.live.specs.declared.Fed.{Fed}
-use Rattle.live.specs.declared.Asked.{Asked}
-use Rattle.live.specs.declared.Asked.the-variants.{Quiet, Unfinished}
-use Rattle.live.specs.Feeding.{lastPlace, outside, insideOf}
-
--- ## The answers as the papers have them
-
--- The number and the values of what an interval answers: "an answer at the interval that decides it", and none before.
-abbrev pub toldBy : Heard → List Told
-toldBy Nothing = []
-toldBy (Frame lengths response opening next) =
-    record { number = 0; next = next .0; opening = opening .0; mainLength = lengths .main; responseLength = lengths .response; response = response } ∷ []
-toldBy (Faulty fault next) = bare (faultNumber fault) (next .0) 0 ∷ []
-toldBy PastPlaces = bare 51 0 0 ∷ []
-toldBy FewLentBytes = bare 32 0 0 ∷ []
-
--- the number and the values of what asking answers
-abbrev pub askedTold : Asked → Told
-askedTold (Quiet next) = bare 1 (next .0) 0
-askedTold (Unfinished opening) = bare 2 (opening .0) (opening .0)
-
--- ## What is known of a reader
+use Rattle.live.specs.Feeding.{lastPlace, allHeard, outside, insideOf}
+use Rattle.live.specs.Answers.{toldBy}
 
 -- The frames and faults of a recording, each read from the next position of the one before, the first from 0, as far as
 -- they are told; and the position from which reading goes on.
@@ -51,7 +30,7 @@ pub data Reached (ws : List ℕ) : ℕ → List Outcome → Type 0 where
 -- n intervals have been heard: the next one's place is n, or there is no place more
 pub data Counts (n : ℕ) (p : Places) : Type 0 where
   room : p .full ≡ 0 → p .next ≡ n → n ≤ lastPlace → Counts n p
-  all-heard : p .full ≡ 1 → n ≡ lastPlace + 1 → Counts n p
+  all-heard : p .full ≡ allHeard → n ≡ lastPlace + 1 → Counts n p
 
 -- From the position at which reading goes on there is no opening yet; or there is one, no interval behind it decides its
 -- frame, and the machine holds what stands before the next interval.

@@ -1,4 +1,5 @@
 pub mod Feeding
+pub mod Answers
 pub mod Hearing
 pub mod Opening
 pub mod Taking
@@ -6,4 +7,4 @@ pub mod Heard
 pub mod Refused
 pub mod Asking
 pub mod Whole
-pub mod Anyhow
+pub mod AnyReader

@@ -1,5 +1,5 @@
 -- The reader's own state: what the machine gets back of it, how places are counted, and how a frame is begun.
-use Prim.Native.Nat.{ℕ, _+_, _-_, _≤_, _<_}
+use Prim.Native.Nat.{ℕ, _+_, _^_, _≤_, _<_}
 use mathlib.Core.Path.{_≡_, refl, sym, ap, subst, _∙_}
 use mathlib.Core.Bool.{Bool, true, false}
 use mathlib.Core.List.{List}
@@ -38,6 +38,10 @@ unfolding heldBy insideOf
 held-inside m kept h k = rw (phase-back (m .phase), le-leb (m .count) mostBytes h, le-leb (m .began) (m .count) k)
 
 -- ## The places
+
+-- The last place is the last that 64 bits count.
+pub last-is : lastPlace + 1 ≡ 2 ^ 64
+last-is = refl
 
 -- One interval more is counted, up to the last place.
 pub counts-on : (n : ℕ) (p : Places) (from opening : ℕ) → p .next ≡ n → n ≤ lastPlace → Counts (n + 1) (behind p from opening)

@@ -3,7 +3,7 @@
 use Prim.Native.Nat.{ℕ, _+_, _≤_, _<_}
 use mathlib.Core.Path.{_≡_, refl}
 use mathlib.Core.Bool.{Bool, true, false, cond, not}
-use mathlib.Core.List.{List}
+use mathlib.Core.List.{List, [], _∷_}
 use mathlib.Core.Logic.{_↔_}
 use native.Mathlib.Omega.{arith}
 use lib.Dec.{eqb, ltb}
@@ -12,13 +12,15 @@ use borrow.Author.Tests.{ltb-true, lt-ltb, eq-eqb}
 use Rattle.laws.specs.Tests.{never}
 use Rattle.framing.specs.Faults.{mostBytes}
 use Rattle.framing.specs.Reading.{Outcome}
+use Rattle.framing.specs.Answers.{bare}
 use Rattle.machine.specs.declared.Machine.{Machine}
 use Rattle.machine.specs.declared.Event.{Event}
 use Rattle.machine.specs.declared.Event.the-variants.{Going, Byte, Closed, Faulty as FaultyEvent}
 use Rattle.live.specs.declared.Live.{Live}
 use Rattle.live.specs.declared.Heard.{Heard}
 use Rattle.live.specs.declared.Heard.the-variants.{Nothing, Frame, Faulty, PastPlaces, FewLentBytes}
-use Rattle.live.specs.Feeding.{lastPlace, beginsAnew, fedBy, stepAt, endsAt, takenOf, fedOf, laidBy, lentOf}
+use Rattle.live.specs.Feeding.{lastPlace, noFrame, waiting, refusedBy, fedBy, stepAt, endsAt, takenOf, fedOf, laidBy, lentOf}
+use Rattle.live.specs.Answers.{toldBy}
 use Rattle.live.specs.Hearing.{Counts, room, all-heard, Hears}
 
 -- the number of a refusal, and 0 for what is none
@@ -29,6 +31,21 @@ refusal (Faulty fault next) = 0
 refusal PastPlaces = 51
 refusal FewLentBytes = 32
 
+-- A refusal is told by its number, and by nothing else.
+pub refusal-51 : (h : Heard) → refusal h ≡ 51 → toldBy h ≡ bare 51 0 0 ∷ []
+refusal-51 Nothing e = absurd (omega (arith, e))
+refusal-51 (Frame lengths response opening next) e = absurd (omega (arith, e))
+refusal-51 (Faulty fault next) e = absurd (omega (arith, e))
+refusal-51 PastPlaces e = refl
+refusal-51 FewLentBytes e = absurd (omega (arith, e))
+
+pub refusal-32 : (h : Heard) → refusal h ≡ 32 → toldBy h ≡ bare 32 0 0 ∷ []
+refusal-32 Nothing e = absurd (omega (arith, e))
+refusal-32 (Frame lengths response opening next) e = absurd (omega (arith, e))
+refusal-32 (Faulty fault next) e = absurd (omega (arith, e))
+refusal-32 PastPlaces e = absurd (omega (arith, e))
+refusal-32 FewLentBytes e = refl
+
 by-taken : (e : Event) (v : Live) (m : Machine) (b : Bool) → refusal (fedBy e v m b .heard) ≡ 0
 by-taken Going v m b = refl
 by-taken (Byte x) v m b = refl
@@ -37,9 +54,9 @@ by-taken (FaultyEvent f) v m b = refl
 
 taken-none : (v : Live) (w : ℕ) → refusal (takenOf v w .heard) ≡ 0
 unfolding takenOf
-taken-none v w = go (eqb (v .inside .phase) 0)
+taken-none v w = go (eqb (v .inside .phase) noFrame)
   where
-    go : (b : Bool) → refusal (cond b (record { heard = Nothing; live = beginsAnew v (v .places .from) (endsAt v w) }) (fedBy (stepAt v w .event) v (stepAt v w .machine) (endsAt v w)) .heard) ≡ 0
+    go : (b : Bool) → refusal (cond b (waiting v w) (fedBy (stepAt v w .event) v (stepAt v w .machine) (endsAt v w)) .heard) ≡ 0
     go true = refl
     go false = by-taken (stepAt v w .event) v (stepAt v w .machine) (endsAt v w)
 
@@ -48,7 +65,7 @@ pub refused-as : (v : Live) (w lent : ℕ) → refusal (fedOf v w lent .heard) �
 unfolding fedOf
 refused-as v w lent = go (eqb (v .places .full) 0) (ltb lent mostBytes)
   where
-    go : (a b : Bool) → refusal (cond (not a) (record { heard = PastPlaces; live = v }) (cond b (record { heard = FewLentBytes; live = v }) (takenOf v w)) .heard) ≡ cond (not a) 51 (cond b 32 0)
+    go : (a b : Bool) → refusal (cond (not a) (refusedBy v PastPlaces) (cond b (refusedBy v FewLentBytes) (takenOf v w)) .heard) ≡ cond (not a) 51 (cond b 32 0)
     go false b = refl
     go true true = refl
     go true false = taken-none v w
@@ -60,10 +77,10 @@ unfolding fedOf lentOf
 refused-leaves v w lent h = go (eqb (v .places .full) 0) (ltb (length lent) mostBytes) h
   where
     rest : List ℕ
-    rest = cond (eqb (v .inside .phase) 0) lent (laidBy (stepAt v w .event) (v .inside) lent)
+    rest = cond (eqb (v .inside .phase) noFrame) lent (laidBy (stepAt v w .event) (v .inside) lent)
 
-    go : (a b : Bool) → eqb (refusal (cond (not a) (record { heard = PastPlaces; live = v }) (cond b (record { heard = FewLentBytes; live = v }) (takenOf v w)) .heard)) 0 ≡ false
-        → (cond (not a) (record { heard = PastPlaces; live = v }) (cond b (record { heard = FewLentBytes; live = v }) (takenOf v w)) .live ≡ v) × (cond (not a) lent (cond b lent rest) ≡ lent)
+    go : (a b : Bool) → eqb (refusal (cond (not a) (refusedBy v PastPlaces) (cond b (refusedBy v FewLentBytes) (takenOf v w)) .heard)) 0 ≡ false
+        → (cond (not a) (refusedBy v PastPlaces) (cond b (refusedBy v FewLentBytes) (takenOf v w)) .live ≡ v) × (cond (not a) lent (cond b lent rest) ≡ lent)
     go false b g = (refl, refl)
     go true true g = (refl, refl)
     go true false g = never (rw (taken-none v w)) g

@@ -16,7 +16,8 @@ use Rattle.framing.specs.Outcomes.{goesOn}
 use Rattle.framing.specs.ReadingOn.{ReadsOn, last, more, reads-once}
 use Rattle.live.specs.declared.Live.{Live}
 use Rattle.live.specs.Feeding.{lastPlace, started, fedOf, lentOf, askedOf}
-use Rattle.live.specs.Hearing.{toldBy, askedTold, Reached, none-yet, one-more, Hears, Takes, decides-nothing, decides-one}
+use Rattle.live.specs.Answers.{toldBy, askedTold}
+use Rattle.live.specs.Hearing.{Reached, none-yet, one-more, Hears, Takes, decides-nothing, decides-one}
 use Rattle.live.specs.Heard.{starts, takes-it}
 use Rattle.live.specs.Asking.{asks}
 

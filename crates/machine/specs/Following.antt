@@ -62,6 +62,8 @@ keeps-more st st′ kept b few e h =
 
 -- ## What an event says of the interval at k
 
+-- In the frame that opens at o, with n bytes before k: it decides nothing, and the machine m then holds what stands before the
+-- next interval; or it closes the frame; or it is at the fault that the paper gives it.
 abbrev pub Says : Event → ℕ → List ℕ → ℕ → ℕ → Machine → List ℕ → Type 0
 Says Going n ws o k m kept = (decides ws o k ≡ false) × Before ws o (k + 1) m kept
 Says (Byte b) n ws o k m kept = (decides ws o k ≡ false) × ((n < mostBytes) × Before ws o (k + 1) m (set kept n b))

@@ -13,7 +13,7 @@ use Rattle.framing.specs.Faults.{mostBytes}
 abbrev pub laid : ℕ → List ℕ → List ℕ → List ℕ
 laid n kept lent = take n kept ++ drop n lent
 
--- the same, whatever is counted and lent
+-- the same where so many are kept and lent; otherwise the lent bytes stay as they are
 unfoldable pub laidOf : ℕ → List ℕ → List ℕ → List ℕ
 laidOf n kept lent = cond (leb n mostBytes) (cond (leb n (length lent)) (laid n kept lent) lent) lent
 

@@ -10,3 +10,4 @@ pub mod Laying
 pub mod Parts
 pub mod PartLaws
 pub mod Following
+pub mod Room

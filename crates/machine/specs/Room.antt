@@ -65,6 +65,7 @@ module _ (m : Machine) (full : mostBytes ≤ m .count) where
   of-symbol Break = refl
   of-symbol Stuck = refl
 
+-- A byte that the machine tells of is one of the frame's first twelve.
 pub has-room : (m : Machine) (s : Symbol) (t : Stepped) (b : ℕ) → t ≡ stepOf m s → t .event ≡ Byte b → m .count < mostBytes
 has-room m s t b e g = go (upTo mostBytes (m .count))
   where

@@ -16,7 +16,7 @@ use Rattle.live.specs.declared.Inside.{Inside}
 use Rattle.live.specs.declared.Live.{Live}
 use Rattle.live.specs.declared.Heard.{Heard}
 use Rattle.live.specs.declared.Heard.the-variants.{Nothing, Frame, Faulty, PastPlaces, FewLentBytes}
-use Rattle.live.specs.Feeding.{least, heldBy, fedBy, stepAt, endsAt, waiting, takenOf, fedOf}
+use Rattle.live.specs.Feeding.{noFrame, least, heldBy, fedBy, stepAt, endsAt, waiting, takenOf, refusedBy, fedOf}
 
 -- how many bytes an answer tells of
 abbrev pub bytesTold : Heard → ℕ
@@ -40,6 +40,11 @@ in-parts Normalization m h = omega arith
 in-parts Plain m h = omega arith
 in-parts Checked m h = omega arith
 
+-- a reader holds no more bytes than a frame has
+pub held-few : (i : Inside) → heldBy i .count ≤ mostBytes
+unfolding heldBy
+held-few i = at-most (i .count) mostBytes
+
 held-parts : (i : Inside) → partsOf (heldBy i) .lengths .main + partsOf (heldBy i) .lengths .response ≤ mostBytes
 unfolding heldBy
 held-parts i =
@@ -56,10 +61,10 @@ by-event (FaultyEvent f) v m b = omega arith
 -- The lengths that an interval tells never reach past twelve lent bytes.
 pub told-few : (v : Live) (w lent : ℕ) → bytesTold (fedOf v w lent .heard) ≤ mostBytes
 unfolding fedOf takenOf
-told-few v w lent = go (eqb (v .places .full) 0) (ltb lent mostBytes) (eqb (v .inside .phase) 0)
+told-few v w lent = go (eqb (v .places .full) 0) (ltb lent mostBytes) (eqb (v .inside .phase) noFrame)
   where
     go : (a b c : Bool)
-        → bytesTold (cond (not a) (record { heard = PastPlaces; live = v }) (cond b (record { heard = FewLentBytes; live = v }) (cond c (waiting v w) (fedBy (stepAt v w .event) v (stepAt v w .machine) (endsAt v w)))) .heard) ≤ mostBytes
+        → bytesTold (cond (not a) (refusedBy v PastPlaces) (cond b (refusedBy v FewLentBytes) (cond c (waiting v w) (fedBy (stepAt v w .event) v (stepAt v w .machine) (endsAt v w)))) .heard) ≤ mostBytes
     go false b c = omega arith
     go true true c = omega arith
     go true false true = omega arith
