@@ -6,5 +6,7 @@ pub mod Taking
 pub mod Heard
 pub mod Refused
 pub mod Asking
+pub mod Shown
 pub mod Whole
+pub mod History
 pub mod AnyReader

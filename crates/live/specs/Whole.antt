@@ -2,69 +2,27 @@
 -- deliveries, with the bytes of their frames, and then the answer when asked, are those of reading the whole recording on
 -- from its start.
 use Prim.Native.Nat.{ℕ, _+_, _≤_}
-use mathlib.Core.Bool.{false}
 use mathlib.Core.Path.{_≡_, refl, sym, ap, subst, _∙_}
+use mathlib.Core.Bool.{false}
 use mathlib.Core.List.{List, [], _∷_, _++_, map, append-nil, append-assoc}
 use native.Mathlib.Omega.{arith}
-use lib.ListN.{length, take, drop, length-append}
+use lib.ListN.{length, drop, length-append, length-map}
 use lib.Seq.{take-at}
 use Rattle.laws.specs.Tests.{never}
 use Rattle.framing.specs.Faults.{mostBytes}
 use Rattle.framing.specs.Reading.{Outcome, good, quiet, unfinished, faulty, refused, reading}
-use Rattle.framing.specs.Answers.{Told, tells, written, lentAfter}
+use Rattle.framing.specs.Answers.{Told, tells, lentAfter}
 use Rattle.framing.specs.Outcomes.{goesOn}
 use Rattle.framing.specs.ReadingOn.{ReadsOn, last, more, reads-once}
 use Rattle.live.specs.declared.Live.{Live}
 use Rattle.live.specs.Feeding.{lastPlace, started, fedOf, lentOf, askedOf}
-use Rattle.live.specs.Answers.{toldBy, askedTold}
+use Rattle.live.specs.Answers.{askedTold}
 use Rattle.live.specs.Hearing.{Reached, none-yet, one-more, Hears, Takes, decides-nothing, decides-one}
 use Rattle.live.specs.Heard.{starts, takes-it}
 use Rattle.live.specs.Asking.{asks}
+use Rattle.live.specs.Shown.{Comes, recording, Enough, none, also, Shown, afterOne, afterAll, shown, showsOne, showsAll, reads, showsAsked, joined, showsIn, afterIn}
 
 -- ## Intervals one after the other
-
--- one interval as it comes: its width, and the bytes that are lent for it
-pub record Comes : Type 0 where
-  pub width : ℕ
-  pub lent : List ℕ
-
--- the recording that intervals make up
-abbrev pub recording : List Comes → List ℕ
-recording is = map (λ (i : Comes). i .width) is
-
--- bytes enough are lent for each
-pub data Enough : List Comes → Type 0 where
-  none : Enough []
-  also : {i : Comes} {is : List Comes} → mostBytes ≤ length (i .lent) → Enough is → Enough (i ∷ is)
-
--- an answer, and the bytes that it tells of
-pub record Shown : Type 0 where
-  pub told : Told
-  pub bytes : List ℕ
-
--- the reader behind an interval, and behind some
-abbrev pub afterOne : Live → Comes → Live
-afterOne v i = fedOf v (i .width) (length (i .lent)) .live
-
-abbrev pub afterAll : Live → List Comes → Live
-afterAll v [] = v
-afterAll v (i ∷ is) = afterAll (afterOne v i) is
-
--- what an answer shows: as many of the lent bytes, from the first on, as it tells of
-abbrev pub shown : (exit : List ℕ) → Told → Shown
-shown exit t = record { told = t; bytes = take (t .mainLength + t .responseLength) exit }
-
--- what an interval shows, and what some do
-abbrev pub showsOne : Live → Comes → List Shown
-showsOne v i = map (shown (lentOf v (i .width) (i .lent))) (toldBy (fedOf v (i .width) (length (i .lent)) .heard))
-
-abbrev pub showsAll : Live → List Comes → List Shown
-showsAll v [] = []
-showsAll v (i ∷ is) = showsOne v i ++ showsAll (afterOne v i) is
-
--- what reading shows: its answer, and the bytes that it writes
-abbrev pub reads : Outcome → Shown
-reads x = record { told = tells x; bytes = written x }
 
 -- The bytes that an answer tells of are those that stand first in the lent bytes behind it.
 stands-first : (x : Outcome) (entry : List ℕ) → shown (lentAfter x entry) (tells x) ≡ reads x
@@ -82,6 +40,7 @@ pub record Shows (ws : List ℕ) (xs : List Outcome) (after : Live) (shows : Lis
   pub knows : Hears ws (xs ++ new) after
   pub says : shows ≡ map reads new
 
+-- Over any intervals a reader that has heard others goes on knowing what reading says of all of them.
 pub hears-all : (is : List Comes) → Enough is → (done : List ℕ) (xs : List Outcome) (v : Live) → Hears done xs v → length done + length is ≤ lastPlace + 1
     → Shows (done ++ recording is) xs (afterAll v is) (showsAll v is)
 hears-all [] none done xs v h fits =
@@ -123,10 +82,6 @@ map-last : (xs : List Outcome) (x : Outcome) → map reads (xs ++ (x ∷ [])) �
 map-last [] x = refl
 map-last (y ∷ xs) x = ap (λ (l : List Shown). reads y ∷ l) (map-last xs x)
 
--- what asking shows: no bytes
-abbrev pub showsAsked : Live → Shown
-showsAsked v = record { told = askedTold (askedOf v); bytes = [] }
-
 -- no frame and no fault has bytes
 shows-end : (x : Outcome) (t : Told) → t ≡ tells x → goesOn x ≡ false → _≡_ {A = Shown} (record { told = t; bytes = [] }) (reads x)
 shows-end (good main response kind o k) t e g = never refl g
@@ -150,16 +105,6 @@ live-whole is enough fits zs r =
 
 -- ## Deliveries
 
--- all intervals of some deliveries
-abbrev pub joined : List (List Comes) → List Comes
-joined [] = []
-joined (d ∷ ds) = d ++ joined ds
-
--- what deliveries show, one after the other
-abbrev pub showsIn : Live → List (List Comes) → List Shown
-showsIn v [] = []
-showsIn v (d ∷ ds) = showsAll v d ++ showsIn (afterAll v d) ds
-
 shows-append : (v : Live) (a b : List Comes) → showsAll v (a ++ b) ≡ showsAll v a ++ showsAll (afterAll v a) b
 shows-append v [] b = refl
 shows-append v (i ∷ a) b =
@@ -171,3 +116,35 @@ pub deliveries : (v : Live) (ds : List (List Comes)) → showsIn v ds ≡ showsA
 deliveries v [] = refl
 deliveries v (d ∷ ds) =
     ap (λ (l : List Shown). showsAll v d ++ l) (deliveries (afterAll v d) ds) ∙ sym (shows-append v d (joined ds))
+
+after-append : (v : Live) (a b : List Comes) → afterAll v (a ++ b) ≡ afterAll (afterAll v a) b
+after-append v [] b = refl
+after-append v (i ∷ a) b = after-append (afterOne v i) a b
+
+after-deliveries : (v : Live) (ds : List (List Comes)) → afterIn v ds ≡ afterAll v (joined ds)
+after-deliveries v [] = refl
+after-deliveries v (d ∷ ds) = after-deliveries (afterAll v d) ds ∙ sym (after-append v d (joined ds))
+
+-- Deliveries show what reading all their intervals as one recording shows.
+pub delivered-whole : (ds : List (List Comes)) → Enough (joined ds) → length (joined ds) ≤ lastPlace + 1 → (zs : List Outcome) → ReadsOn (recording (joined ds)) mostBytes 0 zs
+    → showsIn started ds ++ (showsAsked (afterIn started ds) ∷ []) ≡ map reads zs
+delivered-whole ds enough fits zs r = rw (deliveries started ds, after-deliveries started ds) (live-whole (joined ds) enough fits zs r)
+
+-- ## The interval that decides
+
+-- what a reader that has heard some intervals does with the next
+pub record Next (is : List Comes) (i : Comes) : Type 0 where
+  pub told-before : List Outcome
+  pub reached : Reached (recording is) (afterAll started is .places .from) told-before
+  pub takes : Takes (recording is) told-before (i .width) (i .lent) (lentOf (afterAll started is) (i .width) (i .lent)) (fedOf (afterAll started is) (i .width) (length (i .lent)))
+
+-- "An answer at the interval that decides it": a frame or a fault is told at its own place, and is the next that reading tells
+-- of the recording with that interval.
+pub told-at : (is : List Comes) → Enough is → length is ≤ lastPlace → (i : Comes) → mostBytes ≤ length (i .lent) → Next is i
+told-at is enough fits i few =
+    let t : Shows (recording is) [] (afterAll started is) (showsAll started is) = hears-all is enough [] [] started starts (omega (arith, fits)) in
+    record {
+      told-before = t .new;
+      reached = t .knows .reached;
+      takes = takes-it (recording is) (t .new) (afterAll started is) (t .knows) (i .width) (rw (length-map is (λ (c : Comes). c .width)) fits) (i .lent) few;
+    }

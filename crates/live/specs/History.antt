@@ -1,0 +1,110 @@
+-- Any history of calls on a started reader: intervals with as many or as few bytes lent as the caller likes, and questions
+-- between them. Refused intervals and questions leave no trace, and what is left is reading.
+use Prim.Native.Nat.{ℕ, _+_, _≤_}
+use mathlib.Core.Path.{_≡_, refl, sym, ap, _∙_}
+use mathlib.Core.Bool.{Bool, true, false, cond, not}
+use mathlib.Core.List.{List, [], _∷_, _++_, map}
+use native.Mathlib.Omega.{arith}
+use lib.Dec.{eqb, ltb}
+use lib.ListN.{length, length-append}
+use borrow.Author.Tests.{eqb-true, ltb-false}
+use Rattle.framing.specs.Faults.{mostBytes}
+use Rattle.framing.specs.Reading.{Outcome}
+use Rattle.framing.specs.ReadingOn.{ReadsOn}
+use Rattle.live.specs.declared.Live.{Live}
+use Rattle.live.specs.Feeding.{lastPlace, started, fedOf, lentOf}
+use Rattle.live.specs.Hearing.{Counts, room, all-heard, Hears, Takes, decides-nothing, decides-one}
+use Rattle.live.specs.Heard.{starts, takes-it}
+use Rattle.live.specs.Refused.{refusal, refused-as, refused-leaves, refused-51}
+use Rattle.live.specs.Shown.{Comes, recording, Enough, none, also, Shown, afterOne, afterAll, showsAll, reads, showsAsked}
+use Rattle.live.specs.Whole.{live-whole}
+
+-- a call on a reader
+pub data Call : Type 0 where
+  hearing : Comes → Call
+  asking : Call
+
+-- the reader behind a call, and behind some
+abbrev pub afterCall : Live → Call → Live
+afterCall v (hearing i) = afterOne v i
+afterCall v asking = v
+
+abbrev pub afterCalls : Live → List Call → Live
+afterCalls v [] = v
+afterCalls v (c ∷ cs) = afterCalls (afterCall v c) cs
+
+-- the interval is not refused
+abbrev pub isTaken : Live → Comes → Bool
+isTaken v i = eqb (refusal (fedOf v (i .width) (length (i .lent)) .heard)) 0
+
+-- the intervals of a history that are not refused
+abbrev pub takenIn : Live → List Call → List Comes
+takenIn v [] = []
+takenIn v (asking ∷ cs) = takenIn v cs
+takenIn v (hearing i ∷ cs) = cond (isTaken v i) (i ∷ takenIn (afterOne v i) cs) (takenIn v cs)
+
+-- An interval that is not refused had bytes enough.
+taken-enough : (v : Live) (i : Comes) → isTaken v i ≡ true → mostBytes ≤ length (i .lent)
+taken-enough v i e = go (eqb (v .places .full) 0) (ltb (length (i .lent)) mostBytes) refl (sym (refused-as v (i .width) (length (i .lent))) ∙ eqb-true (refusal (fedOf v (i .width) (length (i .lent)) .heard)) 0 e)
+  where
+    go : (a b : Bool) → ltb (length (i .lent)) mostBytes ≡ b → _≡_ {A = ℕ} (cond (not a) 51 (cond b 32 0)) 0 → mostBytes ≤ length (i .lent)
+    go false b q g = absurd (omega (arith, g))
+    go true true q g = absurd (omega (arith, g))
+    go true false q g = ltb-false (length (i .lent)) mostBytes q
+
+all-enough : (cs : List Call) (v : Live) → Enough (takenIn v cs)
+all-enough [] v = none
+all-enough (asking ∷ cs) v = all-enough cs v
+all-enough (hearing i ∷ cs) v = go (isTaken v i) refl (all-enough cs (afterOne v i)) (all-enough cs v)
+  where
+    go : (b : Bool) → isTaken v i ≡ b → Enough (takenIn (afterOne v i) cs) → Enough (takenIn v cs) → Enough (cond b (i ∷ takenIn (afterOne v i) cs) (takenIn v cs))
+    go true e k l = also (taken-enough v i e) k
+    go false e k l = l
+
+-- The reader behind a history is the one behind the intervals that were not refused.
+pub after-calls : (cs : List Call) (v : Live) → afterCalls v cs ≡ afterAll v (takenIn v cs)
+after-calls [] v = refl
+after-calls (asking ∷ cs) v = after-calls cs v
+after-calls (hearing i ∷ cs) v = go (isTaken v i) refl (after-calls cs (afterOne v i)) (after-calls cs v)
+  where
+    go : (b : Bool) → isTaken v i ≡ b → afterCalls (afterOne v i) cs ≡ afterAll (afterOne v i) (takenIn (afterOne v i) cs) → afterCalls v cs ≡ afterAll v (takenIn v cs)
+        → afterCalls (afterOne v i) cs ≡ afterAll v (cond b (i ∷ takenIn (afterOne v i) cs) (takenIn v cs))
+    go true e k l = k
+    go false e k l = ap (λ (u : Live). afterCalls u cs) (refused-leaves v (i .width) (i .lent) e .0) ∙ l
+
+-- No history has more intervals taken than there are places.
+few-taken : (cs : List Call) (done : List ℕ) (xs : List Outcome) (v : Live) → Hears done xs v → length done + length (takenIn v cs) ≤ lastPlace + 1
+few-taken [] done xs v h = go (h .counts)
+  where
+    go : Counts (length done) (v .places) → length done + 0 ≤ lastPlace + 1
+    go (room f n k) = omega (arith, k)
+    go (all-heard f n) = omega (arith, n)
+few-taken (asking ∷ cs) done xs v h = few-taken cs done xs v h
+few-taken (hearing i ∷ cs) done xs v h =
+    go (isTaken v i) refl (few-taken cs done xs v h) (λ ys k. few-taken cs (done ++ (i .width ∷ [])) ys (afterOne v i) k)
+  where
+    has-place : isTaken v i ≡ true → Counts (length done) (v .places) → length done ≤ lastPlace
+    has-place e (room f n k) = k
+    has-place e (all-heard f n) =
+        let z : _≡_ {A = ℕ} 51 0 = sym (refused-51 done xs v h (i .width) (length (i .lent)) .1 n) ∙ eqb-true (refusal (fedOf v (i .width) (length (i .lent)) .heard)) 0 e in
+        absurd (omega (arith, z))
+
+    one-more : {exit : List ℕ} → Takes done xs (i .width) (i .lent) exit (fedOf v (i .width) (length (i .lent)))
+        → ((ys : List Outcome) → Hears (done ++ (i .width ∷ [])) ys (afterOne v i) → length (done ++ (i .width ∷ [])) + length (takenIn (afterOne v i) cs) ≤ lastPlace + 1)
+        → length done + length (i ∷ takenIn (afterOne v i) cs) ≤ lastPlace + 1
+    one-more (decides-nothing t x k) on = omega (arith, on xs k, length-append done (i .width ∷ []))
+    one-more (decides-one z g n t x k) on = omega (arith, on (xs ++ (z ∷ [])) k, length-append done (i .width ∷ []))
+
+    go : (b : Bool) → isTaken v i ≡ b → length done + length (takenIn v cs) ≤ lastPlace + 1
+        → ((ys : List Outcome) → Hears (done ++ (i .width ∷ [])) ys (afterOne v i) → length (done ++ (i .width ∷ [])) + length (takenIn (afterOne v i) cs) ≤ lastPlace + 1)
+        → length done + length (cond b (i ∷ takenIn (afterOne v i) cs) (takenIn v cs)) ≤ lastPlace + 1
+    go true e l on = one-more (takes-it done xs v h (i .width) (has-place e (h .counts)) (i .lent) (taken-enough v i e)) on
+    go false e l on = l
+
+-- Whatever calls are made on a started reader: the intervals that were not refused show, and asking then shows, what reading
+-- them as one recording shows.
+pub calls-whole : (cs : List Call) (zs : List Outcome) → ReadsOn (recording (takenIn started cs)) mostBytes 0 zs
+    → showsAll started (takenIn started cs) ++ (showsAsked (afterCalls started cs) ∷ []) ≡ map reads zs
+calls-whole cs zs r =
+    ap (λ (u : Live). showsAll started (takenIn started cs) ++ (showsAsked u ∷ [])) (after-calls cs started)
+    ∙ live-whole (takenIn started cs) (all-enough cs started) (omega (arith, few-taken cs [] [] started starts)) zs r

@@ -1,0 +1,77 @@
+-- What intervals show as they come, one after the other and in deliveries, and what reading shows: each answer, and the bytes
+-- that it tells of.
+use Prim.Native.Nat.{ℕ, _+_, _≤_}
+use mathlib.Core.List.{List, [], _∷_, _++_, map}
+use lib.ListN.{length, take}
+use Rattle.framing.specs.Faults.{mostBytes}
+use Rattle.framing.specs.Reading.{Outcome}
+use Rattle.framing.specs.Answers.{Told, tells, written}
+use Rattle.live.specs.declared.Live.{Live}
+use Rattle.live.specs.Feeding.{fedOf, lentOf, askedOf}
+use Rattle.live.specs.Answers.{toldBy, askedTold}
+
+-- ## Intervals one after the other
+
+-- one interval as it comes: its width, and the bytes that are lent for it
+pub record Comes : Type 0 where
+  pub width : ℕ
+  pub lent : List ℕ
+
+-- the recording that intervals make up
+abbrev pub recording : List Comes → List ℕ
+recording is = map (λ (i : Comes). i .width) is
+
+-- bytes enough are lent for each
+pub data Enough : List Comes → Type 0 where
+  none : Enough []
+  also : {i : Comes} {is : List Comes} → mostBytes ≤ length (i .lent) → Enough is → Enough (i ∷ is)
+
+-- an answer, and the bytes that it tells of
+pub record Shown : Type 0 where
+  pub told : Told
+  pub bytes : List ℕ
+
+-- the reader behind an interval, and behind some
+abbrev pub afterOne : Live → Comes → Live
+afterOne v i = fedOf v (i .width) (length (i .lent)) .live
+
+abbrev pub afterAll : Live → List Comes → Live
+afterAll v [] = v
+afterAll v (i ∷ is) = afterAll (afterOne v i) is
+
+-- what an answer shows: as many of the lent bytes, from the first on, as it tells of
+abbrev pub shown : (exit : List ℕ) → Told → Shown
+shown exit t = record { told = t; bytes = take (t .mainLength + t .responseLength) exit }
+
+-- what an interval shows, and what some do
+abbrev pub showsOne : Live → Comes → List Shown
+showsOne v i = map (shown (lentOf v (i .width) (i .lent))) (toldBy (fedOf v (i .width) (length (i .lent)) .heard))
+
+abbrev pub showsAll : Live → List Comes → List Shown
+showsAll v [] = []
+showsAll v (i ∷ is) = showsOne v i ++ showsAll (afterOne v i) is
+
+-- what reading shows: its answer, and the bytes that it writes
+abbrev pub reads : Outcome → Shown
+reads x = record { told = tells x; bytes = written x }
+
+-- what asking shows: no bytes
+abbrev pub showsAsked : Live → Shown
+showsAsked v = record { told = askedTold (askedOf v); bytes = [] }
+
+-- ## Deliveries
+
+-- all intervals of some deliveries
+abbrev pub joined : List (List Comes) → List Comes
+joined [] = []
+joined (d ∷ ds) = d ++ joined ds
+
+-- what deliveries show, one after the other
+abbrev pub showsIn : Live → List (List Comes) → List Shown
+showsIn v [] = []
+showsIn v (d ∷ ds) = showsAll v d ++ showsIn (afterAll v d) ds
+
+-- the reader behind them
+abbrev pub afterIn : Live → List (List Comes) → Live
+afterIn v [] = v
+afterIn v (d ∷ ds) = afterIn (afterAll v d) ds
