@@ -1,12 +1,10 @@
 -- What the four events of the frame machine do, by what the code has at hand.
 use Prim.Native.Nat.{ℕ, _≤_}
-use mathlib.Core.Path.{_≡_, refl, ap}
-use mathlib.Core.Bool.{Bool, true, false}
+use mathlib.Core.Path.{_≡_, ap}
+use mathlib.Core.Bool.{Bool}
 use mathlib.Core.List.{List}
 use native.Mathlib.Omega.{arith}
-use lib.Dec.{leb}
 use lib.ListN.{length}
-use borrow.Author.Tests.{leb-true}
 use Rattle.symbol.specs.declared.Symbol.{Symbol}
 use Rattle.symbol.specs.Classes.{classOf, endOf}
 use Rattle.framing.specs.Line.{activeAt}

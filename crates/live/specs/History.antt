@@ -12,11 +12,11 @@ use Rattle.framing.specs.Faults.{mostBytes}
 use Rattle.framing.specs.Reading.{Outcome}
 use Rattle.framing.specs.ReadingOn.{ReadsOn}
 use Rattle.live.specs.declared.Live.{Live}
-use Rattle.live.specs.Feeding.{lastPlace, started, fedOf, lentOf}
+use Rattle.live.specs.Feeding.{lastPlace, started, fedOf}
 use Rattle.live.specs.Hearing.{Counts, room, all-heard, Hears, Takes, decides-nothing, decides-one}
 use Rattle.live.specs.Heard.{starts, takes-it}
 use Rattle.live.specs.Refused.{refusal, refused-as, refused-leaves, refused-51}
-use Rattle.live.specs.Shown.{Comes, recording, Enough, none, also, Shown, afterOne, afterAll, showsAll, reads, showsAsked}
+use Rattle.live.specs.Shown.{Comes, recording, Enough, none, also, afterOne, afterAll, showsAll, reads, showsAsked}
 use Rattle.live.specs.Whole.{live-whole}
 
 -- a call on a reader

@@ -9,4 +9,6 @@ pub mod Asking
 pub mod Shown
 pub mod Whole
 pub mod History
+pub mod HeardBack
+pub mod Worked
 pub mod AnyReader

@@ -1,0 +1,24 @@
+-- Document 01's worked reading, heard interval by interval: computed from the definitions.
+use Prim.Native.Nat.{ℕ}
+use mathlib.Core.Path.{_≡_, refl}
+use mathlib.Core.List.{List, [], _∷_, _++_, map}
+use lib.ListN.{replicate}
+use Rattle.symbol.specs.Classes.{classOf, endOf}
+use Rattle.checkbyte.specs.Register.{shift, eightShifts, stepOf as registerStep}
+use Rattle.framing.specs.declared.Response.the-variants.{Without}
+use Rattle.framing.specs.Faults.{mostBytes}
+use Rattle.framing.specs.Reading.{good, quiet}
+use Rattle.framing.specs.WorkedReading.{ffff}
+use Rattle.machine.specs.Steps.{pushOf, bitOf, sofOf, closeOf}
+use Rattle.live.specs.Feeding.{heldBy, insideOf, outside, behind, started, beginsAnew, goesOn, takenOf, fedOf, lentOf, askedOf}
+use Rattle.live.specs.Shown.{Comes, showsAll, afterAll, showsAsked, reads}
+
+-- its intervals, with twelve bytes of zeros lent for each
+abbrev pub heardFfff : List Comes
+heardFfff = map (λ (w : ℕ). record { width = w; lent = replicate mostBytes 0 }) ffff
+
+-- The frame FF FF is told at its closing end, with its bytes; then the reader is quiet from there.
+pub heard-worked : showsAll started heardFfff ++ (showsAsked (afterAll started heardFfff) ∷ [])
+    ≡ (reads (good (0xFF ∷ 0xFF ∷ []) [] Without 0 18) ∷ reads (quiet 18) ∷ [])
+unfolding heldBy insideOf outside behind started beginsAnew goesOn takenOf fedOf lentOf askedOf pushOf bitOf sofOf closeOf classOf endOf registerStep eightShifts shift
+heard-worked = refl
