@@ -2,10 +2,10 @@
  * Sintugapon for C: volts to intervals, reading and writing the frames of SAE J1850 VPW, whole recordings or an interval
  * at a time, contests of up to 32 stations on the line, and the text of the support desk.
  *
- * Every answer's first field, number, is document 01's number: 0 where the call was done, the number of what reading
- * found, or the number of a refusal (31 to 42, document 02's 51, and the desk's own 61). A refusal changes no lent memory,
- * and its other fields are 0. 62, the desk's own too, is its answer to a bad input: a text that tells the line. 63, the
- * library's own, is no refusal either: an interval was heard that decides nothing yet.
+ * Every answer but j1850_live_start's, which is the reader, begins with a number: 0 where the call was done, document 01's
+ * number of what reading found, or the number of a refusal: document 01's 31 to 42, document 02's 51, the desk's own 61. A
+ * refusal changes no lent memory, and the answer's other fields are 0. 62, the desk's own too, is its answer to a bad input:
+ * a text that tells the line. 63, the library's own, is no refusal either: an interval was heard that decides nothing yet.
  *
  * A slice is a pointer and then a length in elements; where the length is 0 the pointer may be NULL. A live reader is a
  * pointer to one, never NULL. Lent memory must not overlap the other arguments. Beyond memory that is there, no call asks
@@ -57,8 +57,8 @@ enum {
 enum { J1850_WITHOUT = 0, J1850_PLAIN = 1, J1850_CHECKED = 2 };
 
 /* A station of a row: its clock and its stored message, the first `length` of its bytes. Length 0 means empty. A row is an
-   array of 1 to 32 stations, which the caller owns; one that starts empty has good clocks and lengths of 0. A
-   station has 24 bytes, and none of them is padding. */
+   array of 1 to 32 stations, which the caller owns; one that starts empty has good clocks and lengths of 0. A station has
+   24 bytes, and none of them is padding. */
 typedef struct {
     j1850_clock clock;
     uint8_t bytes[11];
@@ -74,6 +74,9 @@ enum { J1850_IDLE = 0, J1850_THROUGH = 1, J1850_LOST = 2 };
 typedef struct {
     uint64_t inner[8];
 } j1850_live;
+
+/* The number of an interval that j1850_hear has heard and that decides nothing yet. */
+enum { J1850_UNDECIDED = 63 };
 
 /* What j1850_desk has to be lent: words, and bytes of text. */
 enum { J1850_DESK_WORDS = 16384, J1850_DESK_TEXT = 442463 };
@@ -109,7 +112,7 @@ typedef struct {
 } j1850_read_answer;
 
 typedef struct {
-    uint32_t number;  /* 0 good frame; 11 to 20 the fault; 63 the interval decides nothing yet; 51, 32 refused */
+    uint32_t number;  /* 0 good frame; 11 to 20 the fault; J1850_UNDECIDED nothing yet; 51, 32 refused */
     uint32_t kind;    /* 0: J1850_WITHOUT, J1850_PLAIN or J1850_CHECKED; otherwise 0 */
     uint64_t next;    /* where reading goes on: 0 the closing end; 11 to 20 the interval at fault; otherwise 0 */
     uint64_t opening; /* 0: where the frame opens; otherwise 0 */

@@ -13,9 +13,6 @@
 
 static const j1850_clock nominal = {64, 128, 200};
 
-/* The number of an interval that was heard and decides nothing yet. */
-enum { UNDECIDED = 63 };
-
 static void put_bytes(const uint8_t *bytes, size_t length) {
     for (size_t i = 0; i < length; i++)
         printf(" %02X", bytes[i]);
@@ -135,7 +132,7 @@ static void hearing(const uint32_t *widths, size_t count) {
             printf("  %" PRIu64 " closes what opened at %" PRIu64 ": ", answer.next, answer.opening);
             put_frame(bytes, answer.main, answer.kind, answer.response);
             printf("\n");
-        } else if (answer.number != UNDECIDED) {
+        } else if (answer.number != J1850_UNDECIDED) {
             printf("  %" PRIu64 " is at fault: %u\n", answer.next, (unsigned)answer.number);
         }
     }

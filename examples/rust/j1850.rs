@@ -108,6 +108,9 @@ pub enum Desk<'a> {
     Refused { line: usize, text: &'a [u8] },
 }
 
+/// The library's number of an interval that decides nothing yet.
+const UNDECIDED: u32 = 63;
+
 /// What has to be lent to `desk`.
 pub const DESK_WORDS: usize = 16_384;
 pub const DESK_TEXT: usize = 442_463;
@@ -178,7 +181,7 @@ pub fn hear<'a>(live: &mut Live, width: u32, bytes: &'a mut [u8]) -> Result<Hear
             let (main, response) = parts(bytes, answer.main, answer.kind, answer.response);
             Heard::Frame { opening: answer.opening, next: answer.next, main, response }
         }
-        63 => Heard::Nothing,
+        UNDECIDED => Heard::Nothing,
         number @ 11..=20 => Heard::Fault { number, next: answer.next },
         refused => return Err(refused),
     })

@@ -98,6 +98,7 @@ module _ (row : List Station) (i : ℕ) (r : Changed) where
     unfolding numberOf loadRules
     load-number = numbers row i (loadRules (benchOf row) i m) (refuse 37 (badMessage m) (refuse 41 (holding row i) 0)) (λ few h. rw (station-same row few i h))
 
+    -- Loading on the lent row keeps its promise ..
     pub load-kept : LoadPromise i m row (putBack (r .bench) row) (r .called)
     unfolding after taken done numberOf
     load-kept =
@@ -115,6 +116,7 @@ module _ (row : List Station) (i : ℕ) (r : Changed) where
     unfolding numberOf withdrawRules
     withdraw-number = numbers row i (withdrawRules (benchOf row) i) (refuse 42 (nothingToWithdraw row i) 0) (λ few h. rw (station-same row few i h))
 
+    -- .. withdrawing too ..
     pub withdraw-kept : WithdrawPromise i row (putBack (r .bench) row) (r .called)
     unfolding after taken done numberOf
     withdraw-kept =
@@ -132,6 +134,7 @@ module _ (row : List Station) (i : ℕ) (r : Changed) where
     unfolding numberOf clockRules
     clock-number = numbers row i (clockRules k) (refuse 36 (badClock k) 0) (λ few h. refl)
 
+    -- .. and setting a clock.
     pub clock-kept : ClockPromise i k row (putBack (r .bench) row) (r .called)
     unfolding after taken done numberOf
     clock-kept =

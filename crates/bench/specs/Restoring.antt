@@ -79,6 +79,7 @@ gather-all row i e = ap (λ (l : List Station). record { at = l; count = length 
         let f : i ≡ length row = omega arith in
         ap (λ (l : List Station). take mostStations (l ++ replicate mostStations blank)) (ap (λ (n : ℕ). take n row) f ∙ take-length row)
 
+-- However many are filled, there are 32 places.
 pub gather-length : (row : List Station) (i : ℕ) → length (gathered row i) ≡ mostStations
 unfolding gathered
 gather-length row i = omega (arith, length-take mostStations (take i row ++ replicate mostStations blank), length-append (take i row) (replicate mostStations blank), length-replicate mostStations blank)

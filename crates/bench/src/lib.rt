@@ -1,5 +1,5 @@
 // The contest bench: the calls on a lent row of stations, worked out. What each of them answers and leaves behind is
-// defined in the room below, in document 01's words.
+// defined in `contest`, in document 01's words.
 mod row;
 
 pub use row::load;

@@ -70,10 +70,12 @@ module _ (b : Bench) (i : ℕ) (d : Station) (h : i < length (b .at)) where
   there = getD-any (b .at) i d blank h
 
   module _ (m : List ℕ) (e : badMessage m ≡ false) where
+    -- 41
     pub load-holding : 0 < getD (b .at) i d .len → ChangedBy b (loadRules b i m) (loadedBench b i m) (record { bench = b; called = Holding })
     unfolding loadRules
     load-holding k = rw (e, ← there, ne-eqb (getD (b .at) i d .len) 0 (λ z. omega arith)) (record { says = refl; leaves = refl })
 
+    -- loaded
     pub load-done : getD (b .at) i d .len ≤ 0 → (s : Station) → s ≡ loaded m (getD (b .at) i d) → (r : Changed) → r ≡ doneWith b i s → ChangedBy b (loadRules b i m) (loadedBench b i m) r
     unfolding loadRules
     load-done k s p r q = rw (e, ← there, eq-eqb (getD (b .at) i d .len) 0 (omega arith), q, p) (record { says = refl; leaves = refl })

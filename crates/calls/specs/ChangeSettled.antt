@@ -22,6 +22,7 @@ use Rattle.calls.specs.Changes.{stationOf, ChangedBy, rowNumber, andThen
 
 -- ## One answer, one bench
 
+-- what a call comes to, of its two parts
 abbrev changed : Bench → Called → Changed
 changed b c = record { bench = b; called = c }
 

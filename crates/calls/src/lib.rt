@@ -15,6 +15,7 @@ use contest::Station;
 use rows::Bench;
 use symbol::Clock;
 
+// The places of a row by value, and the most bytes that a station stores.
 const MOST_STATIONS: usize = 32;
 
 const MOST_STORED: usize = 11;
@@ -43,6 +44,7 @@ fn row_call(bench: Bench, place: usize) -> Called
     Called::Done
 }
 
+// Whether a call goes on behind the rules that have been judged so far.
 fn is_done(called: Called) -> bool
     ensures { λ r. ⌜ r ≡ eqb (calledNumber called) 0 ⌝ }
 {

@@ -45,6 +45,7 @@ registerOf bs = registerFrom allOnes bs
 abbrev pub checkFrom : ℕ → List ℕ → ℕ
 checkFrom r bs = allOnes - registerFrom r bs
 
+-- the check byte that is sent behind the bytes
 unfoldable pub checkOf : List ℕ → ℕ
 checkOf bs = checkFrom allOnes bs
 

@@ -66,7 +66,8 @@ fits : (x : List ℕ) → 1 ≤ length x → length x ≤ mostStored → badMess
 fits x lo hi = admitted x Without [] .1 (record { some-main = lo; some-response = tt; at-most = omega (arith, with-check-length x) })
 
 -- READ-BACK. The words of a round that is not turned away, as they stand first in the lent words, are read from position 0 as
--- the winner's message: a good frame, its bytes and its check byte, no response, opened at 0, the next position at the closing end.
+-- the winner's message: a good frame, its bytes and its check byte, no response, opened at 0, the next position at the
+-- closing end.
 pub round-reads : (lent : List ℕ) (row : List Station) → taken (round lent) row ≡ true → (x : List ℕ) → winnerOf row ≡ bitsSent x
     → Bytes x → 1 ≤ length x → length x ≤ mostStored → (bytesLent : ℕ) → mostBytes ≤ bytesLent
     → reading (lentAfter row lent) 0 bytesLent ≡ good (withCheck x) [] Without 0 (2 + length (bitsSent x))

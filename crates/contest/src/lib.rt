@@ -1,5 +1,5 @@
 // The contest bench: the types that callers see. What a round is, what each call answers and what it leaves behind are
-// defined in specs/, in document 01's words; the code that works them out is the room above.
+// defined in specs/, in document 01's words; the code that works them out stands in the rooms above.
 use symbol::Clock;
 use units::Micros;
 

@@ -57,6 +57,7 @@ fn byte_faults() {
     say(b"  fault-20    a thirteenth byte begins\n\n");
 }
 
+// The whole page.
 pub(crate) fn print() {
     usage();
     input();

@@ -39,10 +39,11 @@ use Rattle.framing.specs.Nominal.{nominalAt, nominalFrom, nominalInterva
 
 -- ## The parts that were read
 
--- the parts of the message before a closing end that stands at st
+-- the message before a closing end that stands at st: its main bytes without their check byte ..
 abbrev mainOf : Standing → List ℕ
 mainOf st = withoutCheck (mainBytes st)
 
+-- .. and its response's bytes without theirs
 abbrev responseOf : Standing → List ℕ
 responseOf st = responseBare (facts st .answered) (responseBytes st)
 

@@ -57,7 +57,8 @@ tells (unfinished opening) = bare 2 opening opening
 tells (faulty number next) = bare number next 0
 tells (refused number) = bare number 0 0
 
--- "On answer 0 the main bytes, then the response bytes, checks included, stand first in the lent bytes .. On any other answer nothing is written."
+-- "On answer 0 the main bytes, then the response bytes, checks included, stand first in the lent bytes .. On any other
+-- answer nothing is written."
 abbrev pub written : Outcome → List ℕ
 written (good main response kind opening next) = main ++ response
 written (quiet next) = []

@@ -22,10 +22,12 @@ first-same t u i (suc n) g =
 
 -- Two recordings with the same intervals at the first n places.
 module _ (ws ws' : List ℕ) (n : ℕ) (same : (j : ℕ) → j < n → getD ws j 0 ≡ getD ws' j 0) where
+  -- the symbols there are the same ..
   pub symbol-same : (j : ℕ) → j < n → symbolAt ws j ≡ symbolAt ws' j
   unfolding symbolAt
   symbol-same j h = rw (same j h)
 
+  -- .. and the ends
   pub end-same : (j : ℕ) → j < n → endAt ws j ≡ endAt ws' j
   unfolding endAt
   end-same j h = rw (same j h)
@@ -42,9 +44,11 @@ module _ (ws ws' : List ℕ) (n : ℕ) (same : (j : ℕ) → j < n → getD ws j
       let e : k ≡ o + (k - (o + 1) + 1) = omega arith in
       subst (λ (x : ℕ). stands ws o x ≡ stands ws' o x) (sym e) (stands-on o (k - (o + 1)) (omega arith))
 
+  -- So the fault of an interval is the same ..
   pub fault-same : (o k : ℕ) → o < k → k < n → faultAt ws o k ≡ faultAt ws' o k
   fault-same o k a b = rw (stands-same o k a (omega arith), symbol-same k b)
 
+  -- .. and whether it decides the frame.
   pub decides-same : (o k : ℕ) → o < k → k < n → decides ws o k ≡ decides ws' o k
   unfolding decides
   decides-same o k a b = rw (fault-same o k a b, end-same k b)

@@ -28,6 +28,7 @@ movedOutcome p' o o' (unfinished opening) = unfinished (moved o o' opening)
 movedOutcome p' o o' (faulty number next) = faulty number (moved o o' next)
 movedOutcome p' o o' (refused number) = refused number
 
+-- a place that a search found, moved along
 abbrev movedFound : (o o' : ℕ) → Found → Found
 movedFound o o' nowhere = nowhere
 movedFound o o' (at k) = at (moved o o' k)

@@ -1,5 +1,6 @@
 -- Where an interval stands in its frame, and what stands before it there. Document 01, "Frames on the line": after the
--- opening "come SOF, bytes .., then an end, or EOD and a response. A response is an active normalization bit .., bytes, and an end."
+-- opening "come SOF, bytes .., then an end, or EOD and a response. A response is an active normalization bit .., bytes, and
+-- an end."
 use Prim.Native.Nat.{ℕ, _+_}
 use mathlib.Core.Bool.{Bool, true, false, cond}
 use mathlib.Core.List.{List}

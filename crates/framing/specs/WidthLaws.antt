@@ -65,7 +65,8 @@ response-widths-length c Checked rs =
     let k = with-check-length rs in
     omega arith
 
--- A frame takes its two ends and its SOF, eight words for each byte of the main part with its check byte, and those of its response.
+-- A frame takes its two ends and its SOF, eight words for each byte of the main part with its check byte, and those of its
+-- response.
 pub frame-words-length : (c : Clock) (main : List ℕ) (kind : Response) (rs : List ℕ)
     → length (frameWords c main kind rs) ≡ 3 + 8 * (length main + 1) + responseWords kind (length rs)
 unfolding frameWords

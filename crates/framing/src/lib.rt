@@ -1,5 +1,5 @@
 // What reading and writing a frame answer: the types that callers see. The definitions of what the answers are stand in
-// specs/, in document 01's words; the code that works them out is the room above.
+// specs/, in document 01's words; the code that works them out stands in the rooms above.
 use units::Place;
 
 // How a frame was answered by another controller: not at all, with bytes alone, or with bytes and a check byte of their own.

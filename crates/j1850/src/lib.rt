@@ -1,6 +1,6 @@
-// The open calls for C, Rust and Python; include/j1850.h says what each takes and answers. Each call hands its arguments
-// to the room that does the work and gives that room's answer as numbers, the number of what came of it first. Those
-// numbers are documents 01's and 02's; 61, 62 and 63 are our own.
+// The open calls for C, Rust and Python, but those on a live reader; include/j1850.h says what each takes and answers. Each
+// call hands its arguments to the room that does the work and gives that room's answer as numbers, the number of what came
+// of it first. Those numbers are document 01's; 61 and 62 are our own.
 mod row;
 
 ghost use mathlib.Core.Path.{_≡_};

@@ -1,4 +1,4 @@
--- What the steps of judging find, told by the definitions of the room below.
+-- What the steps of judging find, told by the definitions of `text`.
 use Prim.Native.Nat.{ℕ, _≤_}
 use mathlib.Core.Path.{_≡_}
 use mathlib.Core.Bool.{Bool, true, false, _&&_}

@@ -1,5 +1,5 @@
 // Judging the desk's input: its labels and widths, or the number of its first bad line. What a good line is, and which line
-// is the first bad one, is defined in the room below.
+// is the first bad one, is defined in `text`.
 ghost use mathlib.Core.Path.{_≡_};
 ghost use Prim.Native.Nat.{_≤_};
 ghost use lib.ListN.{length};

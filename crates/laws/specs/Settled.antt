@@ -1,5 +1,5 @@
--- That no second answer meets a promise, where the promise is an equation: the open calls that lend nothing promise
--- `r ≡ f x`, with `f` a definition, and one law serves them all.
+-- That no second answer meets a promise, where the promise is an equation: of an answer, `r ≡ f x` with `f` a definition,
+-- or of lent memory as it is afterwards. One law serves them all.
 use mathlib.Core.Path.{_≡_, sym, _∙_}
 
 -- Two answers that both equal what the definition gives are the same answer.

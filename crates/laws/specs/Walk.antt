@@ -38,9 +38,11 @@ abbrev pub Places : List Local → Type 0
 Places [] = Unit {0}
 Places (l ∷ ls) = ℕ × Places ls
 
+-- the type of a local
 abbrev typeOf : Local → Ty
 typeOf (local τ h) = τ
 
+-- the locals with their types, each where it lies
 abbrev pub envOf : (ls : List Local) → Places ls → List (Ty × ℕ)
 envOf [] bs = []
 envOf (l ∷ ls) bs = (typeOf l, bs .0) ∷ envOf ls (bs .1)

@@ -42,8 +42,9 @@ pub enum Event {
     Faulty(Fault),
 }
 
-// What a symbol does, and what is known of the frame behind it. The event stands first, and each piece below is called
-// from one place: so the compiler keeps all of it in registers, and reading is half as long as it is otherwise.
+// What a symbol does, and what is known of the frame behind it. The event stands first, and `push`, `bit`, `sof` and
+// `close_part` are each called from one place: so the compiler keeps all of it in registers, and reading is half as long as
+// it is otherwise.
 pub struct Stepped {
     pub event: Event,
     pub machine: Machine,

@@ -1,5 +1,6 @@
--- What the exported calls give: the answers of the rooms below, with document 01's number first and a number for each case
--- of an enum, since enums do not cross to other languages. Definitions only.
+-- What the exported calls on volts, writing, reading and the desk's text, and the small questions, give: document 01's number
+-- first, and a number for each symbol and each kind of response, since enums do not cross to other languages. Definitions
+-- only.
 use Prim.Native.Nat.{ℕ}
 use mathlib.Core.Bool.{Bool, cond, not}
 use mathlib.Core.List.{List}

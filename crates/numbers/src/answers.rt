@@ -1,5 +1,5 @@
-// What crosses to other languages: structs of plain numbers, and the answers of the rooms below as such structs. Enums do
-// not cross, so each case has a number.
+// What the calls on volts, frames and the desk's text, and the small questions, answer to other languages: structs of plain
+// numbers. Enums do not cross, so each case of a symbol, of a kind of response and of a fault has a number.
 ghost use mathlib.Core.Path.{_≡_};
 ghost use Rattle.volts.specs.Tracing.{numbered};
 ghost use Rattle.framing.specs.Answers.{faultNumber, told, bare as bareTold};

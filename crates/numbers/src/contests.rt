@@ -37,6 +37,7 @@ const THROUGH: u32 = 1;
 
 const LOST: u32 = 2;
 
+// The places that a round tells of, however many stations the row has.
 const MOST_STATIONS: usize = 32;
 
 // Document 01's number for what a call at a place answers.

@@ -1,5 +1,5 @@
 // Reading: from a position in a recording to the frame that opens there, or to what is wrong with it. What reading
-// answers is defined, in document 01's words, in the room below. Here the frame machine is driven over the recording,
+// answers is defined, in document 01's words, in `framing`. Here the frame machine is driven over the recording,
 // and the bytes that it tells of are kept until the frame is whole.
 ghost use mathlib.Core.Path.{_≡_};
 ghost use Prim.Native.Nat.{_≤_, _<_};

@@ -30,10 +30,12 @@ pub record Filled {B : Type 0} (f : Station → B) (row : List Station) (first n
   pub so-far : now ≡ filled (λ (p : ℕ). f (getD row p blank)) first i
 
 module _ {B : Type 0} (f : Station → B) where
+  -- nothing is filled at first ..
   pub each-start : (row : List Station) (first : List B) → length row ≡ mostStations → length first ≡ mostStations → Filled f row first first 0
   each-start row first n m = record { inside = omega arith; whole = n; room = m; so-far = fill-start (λ (p : ℕ). f (getD row p blank)) first }
 
   module _ {row : List Station} {first now : List B} {i : ℕ} (so : Filled f row first now i) where
+    -- .. then one place more ..
     pub each-more : i < mostStations → (d : Station) (x : B) → x ≡ f (getD row i d) → Filled f row first (set now i x) (i + 1)
     each-more h d x e =
         let g : ℕ → B = λ (p : ℕ). f (getD row p blank) in
@@ -46,6 +48,7 @@ module _ {B : Type 0} (f : Station → B) where
               ∙ fill-more g first i x x (omega (arith, so .room)) (e ∙ ap f (getD-any row i d blank (omega (arith, so .whole))));
         }
 
+    -- .. and at the end every place has what belongs to its station.
     pub each-all : mostStations ≤ i → now ≡ map f row
     each-all h =
         so .so-far ∙ fill-all (λ (p : ℕ). f (getD row p blank)) first i mostStations (so .room) h (so .inside)
@@ -56,17 +59,19 @@ module _ {B : Type 0} (f : Station → B) where
 short-stored : (s : Station) → sound s ≡ true → s .len ≤ mostStored
 short-stored s h = leb-true (s .len) mostStored (both (leb (s .len) mostStored) (goodOf (s .clock)) h .0)
 
+-- In a row of sound stations none stores more than 11 bytes.
 pub sound-at : (row : List Station) (i : ℕ) (d : Station) → allSound row ≡ true → i < length row → getD row i d .len ≤ mostStored
 unfolding allSound
 sound-at [] i d h k = absurd (omega arith)
 sound-at (s ∷ row) zero d h k = short-stored s (both (sound s) (allSound row) h .0)
 sound-at (s ∷ row) (suc i) d h k = sound-at row i d (both (sound s) (allSound row) h .1) (omega arith)
 
--- its bits: eight for each byte, the check byte included
+-- Its bits: none where it is empty, since then no check byte is sent either ..
 pub count-none : (s : Station) → s .len ≡ 0 → 0 ≡ countOf s
 unfolding countOf
 count-none s e = rw (eq-eqb (s .len) 0 e)
 
+-- .. and otherwise eight for each byte, the check byte included.
 pub count-some : (s : Station) → (s .len ≡ 0 → ⊥) → s .len ≤ length (s .bytes) → (s .len + 1) * 8 ≡ countOf s
 unfolding countOf
 count-some s e h =
@@ -111,9 +116,11 @@ frame-at s h w n e =
 -- ## The verdicts
 
 module _ (counts lost : List ℕ) where
+  -- the verdict of one place
   unfoldable pub verdictAt : ℕ → Verdict
   verdictAt i = verdictOf (faredIn (getD counts i 0) (getD lost i 0))
 
+  -- An array that is filled with them to its end has the verdicts of the round.
   pub verdicts-end : (first now : List Verdict) (i : ℕ) → length first ≡ mostStations → mostStations ≤ i → i ≤ mostStations → now ≡ filled verdictAt first i → now ≡ verdictsAt counts lost
   unfolding verdictAt faresAt
   verdicts-end first now i n lo hi e =

@@ -18,6 +18,7 @@ pub record Lanes : Type 0 where
   pub shorts : List ℕ
   pub longs : List ℕ
 
+-- the four together
 abbrev pub lanesOf : List ℕ → List (List ℕ) → List ℕ → List ℕ → Lanes
 lanesOf counts frames shorts longs = record { counts = counts; frames = frames; shorts = shorts; longs = longs }
 
@@ -45,6 +46,7 @@ laneAt l lost j i = record {
 unfoldable pub bitOf : ℕ → ℕ → Bool
 bitOf byte j = odd (byte / 2 ^ (7 - j % 8))
 
+-- the width that a clock has for a bit: a 1 is short where the line is active, a 0 where it is passive
 abbrev pub widthFor : ℕ → ℕ → Bool → Bool → ℕ
 widthFor short long active one = cond (Bool·beq active one) short long
 
@@ -68,9 +70,11 @@ lostBy k one (Bit own width) lost = cond (Bool·beq own one) lost k
 unfoldable pub asksAt : Lanes → List ℕ → Bool → ℕ → List Ask
 asksAt l lost active j = from (λ (i : ℕ). askOf (laneAt l lost j i) active j) 0 mostStations
 
+-- of a width and those asked for before it, the one that stands on the line: the longest active, the shortest passive one
 abbrev pub outlastsOf : Asked → ℕ → Bool → ℕ
 outlastsOf asked width active = cond (asked .some) (cond active (max width (asked .width)) (min width (asked .width))) width
 
+-- one place more; only one that still sends a bit has a say
 abbrev pub takenIn : Bool → Asked → Ask → Asked
 takenIn active asked Out = asked
 takenIn active asked Ended = asked

@@ -38,10 +38,12 @@ module _ (l : Lanes) (lost : List ℕ) (active : Bool) (j : ℕ) where
   unfolding allAsked
   taken-one x xs = refl
 
+  -- nobody has been asked yet ..
   pub ask-start : record { some = false; width = 0 } ≡ allAsked active (drop mostStations (asksAt l lost active j))
   unfolding allAsked
   ask-start = fold-start (allAsked active) (takenIn active) taken-one (asksAt l lost active j) mostStations (omega (arith, asks-length))
 
+  -- .. one place more ..
   pub ask-more : (i : ℕ) → 0 < i → i ≤ mostStations → (ask : Ask) → ask ≡ askOf (laneAt l lost j (i - 1)) active j
       → (v u : Asked) → v ≡ allAsked active (drop i (asksAt l lost active j)) → u ≡ takenIn active v ask
       → u ≡ allAsked active (drop (i - 1) (asksAt l lost active j))
@@ -49,6 +51,7 @@ module _ (l : Lanes) (lost : List ℕ) (active : Bool) (j : ℕ) where
       fold-more (allAsked active) (takenIn active) taken-one (asksAt l lost active j) i Out lo (omega (arith, asks-length)) v u f
       (g ∙ ap (takenIn active v) (e ∙ sym (ask-at (i - 1) (omega arith))))
 
+  -- .. and all of them
   pub ask-all : (i : ℕ) → i ≤ 0 → (v : Asked) → v ≡ allAsked active (drop i (asksAt l lost active j)) → v ≡ allAsked active (asksAt l lost active j)
   ask-all = fold-all (allAsked active) (takenIn active) taken-one (asksAt l lost active j)
 
@@ -63,6 +66,7 @@ module _ (l : Lanes) (lost : List ℕ) (active : Bool) (j : ℕ) where
     unfolding laneAt
     lane-ahead i h = rw (fill-ahead heardAt lost i 0 h)
 
+    -- one place more has heard the bit ..
     pub hear-more : (i : ℕ) → i < length lost → (now : List ℕ) → now ≡ filled heardAt lost i
         → (ask : Ask) → ask ≡ askOf (laneAt l now j i) active j → (x : ℕ) → x ≡ lostBy (j + 1) one ask (getD now i 0) → set now i x ≡ filled heardAt lost (i + 1)
     unfolding heardAt
@@ -71,6 +75,7 @@ module _ (l : Lanes) (lost : List ℕ) (active : Bool) (j : ℕ) where
         let ahead : getD now i 0 ≡ getD lost i 0 = ap (λ (r : List ℕ). getD r i 0) e ∙ fill-ahead heardAt lost i 0 h in
         rw e (fill-more heardAt lost i 0 x h (g ∙ rw (f, same, ahead)))
 
+    -- .. and all of them have
     pub hear-all : (i : ℕ) → length lost ≡ mostStations → mostStations ≤ i → i ≤ mostStations → (now : List ℕ) → now ≡ filled heardAt lost i → now ≡ lostAll l lost active j one
     unfolding heardAt lostAll
     hear-all i n lo hi now e = e ∙ fill-all heardAt lost i mostStations n lo hi

@@ -23,6 +23,7 @@ use Rattle.rounds.specs.Rounds.{roundNumber, numberOn, PlayedBy}
 
 -- ## One answer, one bench, one state of the words
 
+-- what a round comes to, of its two parts
 abbrev playedWith : Bench → RoundAnswer → Played
 playedWith b a = record { bench = b; answer = a }
 

@@ -144,6 +144,7 @@ module _ (ws : List ℕ) (n : ℕ) (h : n ≤ length ws) where
   sum-start = fold-start sumOf (λ (x y : ℕ). x + y) sum-one (take n ws) n (omega (arith, length-take-le n ws h))
 
   module _ (i v : ℕ) (hi : i ≤ n) (e : v ≡ sumOf (drop i (take n ws))) where
+    -- one word more
     pub sum-more : 0 < i → v + getD ws (i - 1) 0 ≡ sumOf (drop (i - 1) (take n ws))
     sum-more lo =
         fold-more sumOf (λ (x y : ℕ). x + y) sum-one (take n ws) i 0 lo (omega (arith, length-take-le n ws h)) v (v + getD ws (i - 1) 0) e
@@ -153,6 +154,7 @@ module _ (ws : List ℕ) (n : ℕ) (h : n ≤ length ws) where
     pub sum-fits : 0 < i → v + getD ws (i - 1) 0 ≤ sumOf (take n ws)
     sum-fits lo = omega (arith, sum-more lo, sum-part (take n ws) (i - 1))
 
+    -- all words are summed
     pub sum-all : i ≤ 0 → v ≡ sumOf (take n ws)
     sum-all z = fold-all sumOf (λ (x y : ℕ). x + y) sum-one (take n ws) i z v e
 

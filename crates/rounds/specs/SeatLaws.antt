@@ -133,6 +133,7 @@ module _ (l : Lanes) (i : ℕ) (ok : LaneOk l i) (active : Bool) (j : ℕ) where
 -- ## All places
 
 module _ (l : Lanes) (ok : LanesOk l) (lost : List ℕ) (active : Bool) (j : ℕ) where
+  -- what the lanes ask is what the places of the definition ask ..
   pub asks-are : asksAt l lost active j ≡ map askFor (seatsAt l lost active j)
   unfolding asksAt seatsAt
   asks-are =
@@ -140,6 +141,7 @@ module _ (l : Lanes) (ok : LanesOk l) (lost : List ℕ) (active : Bool) (j : ℕ
       (λ i lo hi. ask-is l i (ok i hi) active j lost)
       ∙ sym (map-from askFor (seatAt l lost active j) 0 mostStations)
 
+  -- .. and once they have heard a bit they stand for the places that have
   pub heard-are : (one : Bool) → seatsAt l (lostAll l lost active j one) (not active) (j + 1) ≡ map (heard (suc j) one) (seatsAt l lost active j)
   unfolding seatsAt lostAll
   heard-are one =

@@ -23,6 +23,7 @@ pub record LaneOk (l : Lanes) (i : ℕ) : Type 0 where
   pub fits : getD (l .counts) i 0 ≤ mostBits
   pub whole : length (getD (l .frames) i []) ≡ 12
 
+-- the same of all places
 abbrev pub LanesOk : Lanes → Type 0
 LanesOk l = (i : ℕ) → i < mostStations → LaneOk l i
 
@@ -38,9 +39,11 @@ restAt l active j i = pulsesOf (clockAt l i) active (drop j (take (getD (l .coun
 abbrev pub seatIn : ℕ → ℕ → List Pulse → Seat
 seatIn count lost ps = cond (eqb count 0) (out Idle) (cond (ltb 0 lost) (out (Lost lost)) (on ps))
 
+-- the place of the definition that lane i stands for, before bit j
 unfoldable pub seatAt : Lanes → List ℕ → Bool → ℕ → ℕ → Seat
 seatAt l lost active j i = seatIn (getD (l .counts) i 0) (getD lost i 0) (restAt l active j i)
 
+-- all 32 of them
 unfoldable pub seatsAt : Lanes → List ℕ → Bool → ℕ → List Seat
 seatsAt l lost active j = from (seatAt l lost active j) 0 mostStations
 
@@ -48,6 +51,7 @@ seatsAt l lost active j = from (seatAt l lost active j) 0 mostStations
 abbrev pub faredIn : ℕ → ℕ → Fared
 faredIn count lost = cond (eqb count 0) Idle (cond (ltb 0 lost) (Lost lost) Through)
 
+-- how all 32 places fare
 unfoldable pub faresAt : List ℕ → List ℕ → List Fared
 faresAt counts lost = from (λ (i : ℕ). faredIn (getD counts i 0) (getD lost i 0)) 0 mostStations
 

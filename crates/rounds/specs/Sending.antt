@@ -101,6 +101,7 @@ module _ (l : Lanes) (ok : LanesOk l) (lost₀ old lost : List ℕ) (active : Bo
     told : a ≡ askedBy active (asked (seatsAt l lost active j))
     told = e ∙ ap (allAsked active) (asks-are l ok lost active j) ∙ asked-are active (seatsAt l lost active j)
 
+    -- Where nobody asks for a bit all is sent.
     pub sending-over : not (a .some) ≡ true → Sent l lost₀ lost old new j
     sending-over t =
         let n : nobodyAsks (asked (seatsAt l lost active j)) ≡ true = not-false _ (ap (λ (x : Asked). x .some) (sym told) ∙ not-true (a .some) t) in
@@ -128,6 +129,7 @@ module _ (l : Lanes) (ok : LanesOk l) (lost₀ old lost : List ℕ) (active : Bo
           ∙ ap (λ (x : List Seat). bitThen (a .width) (play (mostBits - (j + 1)) (not active) (suc (suc j)) x)) (sym then)
           ∙ ap (λ (k : ℕ). bitThen (a .width) (play (mostBits - (j + 1)) (not active) (suc k) (seatsAt l lost′ (not active) (j + 1)))) (sym (add-one j))
 
+      -- the words then hold the bit, and the same is left to come
       pub sending-more : Sending l lost₀ old lost′ (not active) (j + 1) (set new (2 + j) (a .width))
       unfolding all lostAll
       sending-more =

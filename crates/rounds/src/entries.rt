@@ -12,6 +12,7 @@ use contest::Fared;
 use contest::Station;
 use contest::Verdict;
 
+// The places of a row by value, and the bits of a byte.
 const MOST_STATIONS: usize = 32;
 
 const BITS_OF_BYTE: usize = 8;

@@ -106,6 +106,7 @@ fn outlasts(asked: Asked, width: u32, active: bool) -> u32
     width
 }
 
+// The lesser of two widths.
 fn lesser(a: u32, b: u32) -> u32
     ensures { λ r. ⌜ r ≡ min a b ⌝ }
 {

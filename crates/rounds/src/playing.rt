@@ -1,4 +1,4 @@
-// A round on a row by value, but for the words that it writes.
+// A round on a row by value, but for its bits.
 ghost use Prim.Native.Nat.{_≤_};
 ghost use mathlib.Core.Path.{_≡_};
 ghost use mathlib.Core.Bool.{true};
@@ -22,6 +22,7 @@ use rows::Bench;
 use rows::Survey;
 use units::Micros;
 
+// The places of a row by value, and the words that have to be lent, which are enough for every round.
 const MOST_STATIONS: usize = 32;
 
 const MOST_WORDS: usize = 101;
@@ -79,6 +80,7 @@ fn round_told(count: usize, survey: Survey, lent: usize) -> RoundTold
     RoundTold::Played
 }
 
+// Whether a round is turned away by nothing.
 fn is_played(told: RoundTold) -> bool
     ensures { λ r. ⌜ r ≡ eqb (toldNumber told) 0 ⌝ }
 {

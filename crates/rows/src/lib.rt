@@ -13,6 +13,7 @@ pub use survey::bad_size;
 pub use survey::greater;
 pub use survey::survey_all;
 
+// The most stations that a row may have: a row by value has as many places.
 const MOST_STATIONS: usize = 32;
 
 // A row of up to 32 stations, with blank ones past its end, and how many the row has. Where that is more than 32 the

@@ -9,6 +9,7 @@ ghost use Rattle.contest.specs.Stations.{mostStations, sound};
 ghost use Rattle.rows.specs.Surveys.{sofOf, surveyBy, surveyOf};
 use contest::Station;
 
+// The most stations that a row may have, and the most bytes that a station stores.
 const MOST_STATIONS: usize = 32;
 
 const MOST_STORED: u8 = 11;
@@ -73,6 +74,7 @@ fn surveyed(survey: Survey, station: Station) -> Survey
     Survey { sound, empty, sof }
 }
 
+// Both of two tests, each of which has been made.
 fn both(a: bool, b: bool) -> bool
     ensures { λ r. ⌜ r ≡ (a && b) ⌝ }
 {

@@ -33,6 +33,7 @@ judged-back (Good labels widths) = refl
 judged-back (Bad line) = refl
 judged-back FewLentWords = refl
 
+-- .. and the desk's answer
 abbrev answeredOf : Told → Answered
 answeredOf t = cond (eqb (t .number) 0) (Report (t .length)) (cond (eqb (t .number) 62) (Refused (t .line) (t .length)) FewLent)
 

@@ -103,9 +103,11 @@ record Decides (n : ℕ) (s t : List ℕ) : Type 0 where
   stays : badFrom n (lines (s ++ t)) ≡ badFrom n (lines s)
   some : 0 < badFrom n (lines s)
 
+-- a text's first line, up to its newline ..
 abbrev firstOf : List ℕ → Line
 firstOf s = shut (take (indexOf newline s) s)
 
+-- .. and what stands behind that newline
 abbrev restOf : List ℕ → List ℕ
 restOf s = drop (suc (indexOf newline s)) s
 

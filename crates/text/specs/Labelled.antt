@@ -27,9 +27,11 @@ use Rattle.text.specs.Whole.{good-own, desk-good, desk-bad, recording-fe
 unfoldable pub parts-not : ℕ → Bool
 parts-not x = not (eqb x tab) && not (eqb x newline)
 
+-- a field that can be printed and read again: nothing in it parts fields or lines
 abbrev Plain-field : List ℕ → Type 0
 Plain-field f = every parts-not f ≡ true
 
+-- the same of each of several fields
 abbrev All-plain : List (List ℕ) → Type 0
 All-plain [] = Unit {0}
 All-plain (f ∷ fs) = Plain-field f × All-plain fs

@@ -1,5 +1,6 @@
-// The two measures of a recording. A place and a width are both whole numbers, and a program that takes one for the
-// other reads nonsense without a complaint, so each has a type of its own that no other room can mistake.
+// The measures of a recording: a place, a place of a recording that is read as it comes, and a width. All three are whole
+// numbers, and a program that takes one for another reads nonsense without a complaint, so each has a type of its own that
+// no other room can mistake.
 
 // A place in a recording: the number of intervals that stand before it. Even places are passive, odd ones active.
 pub struct Place(pub usize);

@@ -17,8 +17,8 @@ use units::Place;
 const MOST_SAMPLES: usize = 16384;
 
 // What a channel is measured against, in volts: what its ground lies above ours, the level from which the line is active,
-// and the level down to which it is passive. Between the two levels the line stays as it was. Laid
-// out as C has it, since other languages hand it over.
+// and the level down to which it is passive. Between the two levels the line stays as it was. Laid out as C has it, since
+// other languages hand it over.
 #[repr(C)]
 pub struct Gate {
     pub offset: f32,

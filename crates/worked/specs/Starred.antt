@@ -48,16 +48,19 @@ unfoldable pub all : List Item → Bool
 all [] = true
 all (item ∷ items) = isSo item && all items
 
--- the stations of the starred contests
+-- The stations of the starred contests: FF at the quickest clock ..
 abbrev quick : Station
 quick = holds (clockOf 49 112 182) (0xFF ∷ [])
 
+-- .. FF FF ..
 abbrev longer : Station
 longer = holds nominalClock (0xFF ∷ 0xFF ∷ [])
 
+-- .. FF ..
 abbrev ones : Station
 ones = holds nominalClock (0xFF ∷ [])
 
+-- .. and 00, at the nominal one.
 abbrev zeros : Station
 zeros = holds nominalClock (0x00 ∷ [])
 

@@ -1,10 +1,12 @@
 // Words, numbers and bytes on standard output.
 use libc::STDOUT_FILENO;
 
+// A text as it stands: no blank and no newline is added.
 pub(crate) fn word(text: &[u8]) {
     io::write_all(STDOUT_FILENO, text);
 }
 
+// A number in decimal.
 pub(crate) fn number(n: u32) {
     io::print_decimal(STDOUT_FILENO, n as u64);
 }
@@ -21,12 +23,14 @@ pub(crate) fn byte(b: u8) {
     word(&text);
 }
 
+// Bytes in hex, with nothing between them.
 pub(crate) fn bytes(bs: &[u8]) {
     for i in 0..bs.len() {
         byte(bs[i]);
     }
 }
 
+// The name of a level of the line.
 pub(crate) fn level(active: bool) {
     if active {
         word(b"active");
