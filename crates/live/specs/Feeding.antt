@@ -35,10 +35,11 @@ use Rattle.live.specs.declared.Asked.the-variants.{Quiet, Unfinished}
 abbrev pub lastPlace : ℕ
 lastPlace = 18446744073709551615
 
--- what a reader's phase is where it hears no frame, and what says that the last place has been heard
+-- what a reader's phase is where it hears no frame
 abbrev pub noFrame : ℕ
 noFrame = 0
 
+-- what says that the last place has been heard
 abbrev pub allHeard : ℕ
 allHeard = 1
 

@@ -24,11 +24,12 @@ pub data Call : Type 0 where
   hearing : Comes → Call
   asking : Call
 
--- the reader behind a call, and behind some
+-- the reader behind a call
 abbrev pub afterCall : Live → Call → Live
 afterCall v (hearing i) = afterOne v i
 afterCall v asking = v
 
+-- behind some, one after the other
 abbrev pub afterCalls : Live → List Call → Live
 afterCalls v [] = v
 afterCalls v (c ∷ cs) = afterCalls (afterCall v c) cs

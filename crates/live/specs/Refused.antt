@@ -94,6 +94,7 @@ module _ (ws : List ℕ) (xs : List Outcome) (v : Live) (h : Hears ws xs v) (w l
       go (room f n k) = eq-eqb (v .places .full) 0 f
       go (all-heard f n) = absurd (omega (arith, n, l))
 
+  -- the interval is past the last place
   pub refused-51 : (refusal (fedOf v w lent .heard) ≡ 51) ↔ (length ws ≡ lastPlace + 1)
   refused-51 = (λ e. to (h .counts) e, λ e. from (h .counts) e)
     where

@@ -31,10 +31,11 @@ pub record Shown : Type 0 where
   pub told : Told
   pub bytes : List ℕ
 
--- the reader behind an interval, and behind some
+-- the reader behind an interval
 abbrev pub afterOne : Live → Comes → Live
 afterOne v i = fedOf v (i .width) (length (i .lent)) .live
 
+-- behind some, one after the other
 abbrev pub afterAll : Live → List Comes → Live
 afterAll v [] = v
 afterAll v (i ∷ is) = afterAll (afterOne v i) is
@@ -43,10 +44,11 @@ afterAll v (i ∷ is) = afterAll (afterOne v i) is
 abbrev pub shown : (exit : List ℕ) → Told → Shown
 shown exit t = record { told = t; bytes = take (t .mainLength + t .responseLength) exit }
 
--- what an interval shows, and what some do
+-- what an interval shows
 abbrev pub showsOne : Live → Comes → List Shown
 showsOne v i = map (shown (lentOf v (i .width) (i .lent))) (toldBy (fedOf v (i .width) (length (i .lent)) .heard))
 
+-- what some show, one after the other
 abbrev pub showsAll : Live → List Comes → List Shown
 showsAll v [] = []
 showsAll v (i ∷ is) = showsOne v i ++ showsAll (afterOne v i) is

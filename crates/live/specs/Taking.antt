@@ -39,6 +39,7 @@ module _ (ws : List ℕ) (w : ℕ) where
   abbrev pub on : List ℕ
   on = ws ++ (w ∷ [])
 
+  -- its length
   pub long : length on ≡ length ws + 1
   long = length-append ws (w ∷ [])
 
@@ -52,6 +53,7 @@ module _ (ws : List ℕ) (w : ℕ) where
   unfolding symbolAt
   symbol-here = rw here
 
+  -- whether the interval is an end, by its place in the recording
   pub end-here : endOf (activeAt (length ws)) w ≡ endAt on (length ws)
   unfolding endAt
   end-here = rw here
@@ -75,9 +77,11 @@ module _ (ws : List ℕ) (w : ℕ) (v : Live) (xs : List Outcome) (was : Reached
     (opens : opening ws (v .places .from) ≡ at (v .places .opening))
     (none : firstIn (decides ws (v .places .opening)) (v .places .opening + 1) (length ws) ≡ nowhere)
     (stood : Before ws (v .places .opening) (length ws) m kept) where
+  -- where the frame opens
   abbrev o : ℕ
   o = v .places .opening
 
+  -- the place of the interval
   abbrev k : ℕ
   k = length ws
 

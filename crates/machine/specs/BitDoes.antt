@@ -106,6 +106,7 @@ in-response phase m r b h =
 
 -- ## Each standing, by either bit
 
+-- the symbol of a bit
 abbrev bitSymbol : Bool → Symbol
 bitSymbol true = Bit1
 bitSymbol false = Bit0

@@ -24,6 +24,7 @@ use Rattle.machine.specs.Does.{Does, faults, closes, goes}
 
 -- ## The rows of the paper that an EOD or an end can meet
 
+-- 16, then 17, then 18, then what comes behind them
 abbrev rows : Standing → ℕ → ℕ
 rows st behind =
     cond (not (whole (facts st .part))) 16

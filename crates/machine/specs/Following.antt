@@ -109,6 +109,7 @@ module _ (ws : List ℕ) (o k : ℕ) (m : Machine) (kept : List ℕ) (v : Before
   pub held-few : m .count ≤ mostBytes
   held-few = omega (arith, count-is, few-so-far (stands ws o k) kept (v .keeps))
 
+  -- no part begins behind the bytes counted
   pub held-began : m .began ≤ m .count
   held-began = rw (v .holds) (began-within (stands ws o k))
 
