@@ -1,4 +1,4 @@
--- "Quiet and unfinished are asked for separately, at the moment of asking": what a reader answers then is what reading the
+-- Quiet and unfinished, "asked for separately": what a reader answers at the moment of asking is what reading the
 -- intervals heard so far ends with.
 use Prim.Native.Nat.{ℕ, _+_, _≤_, _<_}
 use mathlib.Core.Path.{_≡_, refl, sym, ap, _∙_}

@@ -160,7 +160,7 @@ takenOf v w =
 abbrev pub refusedBy : Live → Heard → Fed
 refusedBy v h = record { heard = h; live = v }
 
--- An interval of the width w, with so many bytes lent. "An interval past the last is refused with 51 and changes nothing";
+-- An interval of the width w, with so many bytes lent. "past the last" place it is 51;
 -- 32 is "judged last on every interval".
 unfoldable pub fedOf : Live → (w lent : ℕ) → Fed
 fedOf v w lent =
@@ -168,7 +168,7 @@ fedOf v w lent =
     (cond (ltb lent mostBytes) (refusedBy v FewLentBytes)
     (takenOf v w))
 
--- what an event does to the lent bytes: "Until a frame is complete its bytes stay inside the reader"
+-- what an event does to the lent bytes: until the frame is closed its "bytes stay inside"
 abbrev pub laidBy : Event → Inside → List ℕ → List ℕ
 laidBy Going i lent = lent
 laidBy (Byte b) i lent = lent
@@ -185,7 +185,7 @@ lentOf v w lent =
 
 -- ## Asking
 
--- "Quiet and unfinished are asked for separately, at the moment of asking": no opening, or no interval behind it
+-- "at the moment of asking": quiet where there is no opening, or no interval behind it, and otherwise unfinished
 unfoldable pub askedOf : Live → Asked
 askedOf v =
     cond (leb (v .inside .phase) (phaseNumber Sof)) (Quiet (longPlace (v .places .from))) (Unfinished (longPlace (v .places .opening)))

@@ -1,5 +1,6 @@
--- What a live reader knows that was started and has heard the intervals ws, one after the other: document 02, request 1,
--- "However the intervals are cut into deliveries, the frames and faults with their places equal those of reading the whole".
+-- What a live reader knows that was started and has heard the intervals ws, one after the other: all by what
+-- reading those intervals as a recording says. A stranger need not believe it: `started` has it, every call keeps it, and the
+-- laws of Whole.antt and History.antt speak of neither.
 use Prim.Native.Nat.{ℕ, _+_, _≤_}
 use mathlib.Core.Path.{_≡_}
 use mathlib.Core.Bool.{true}
