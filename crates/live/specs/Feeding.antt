@@ -160,8 +160,8 @@ takenOf v w =
 abbrev pub refusedBy : Live → Heard → Fed
 refusedBy v h = record { heard = h; live = v }
 
--- An interval of the width w, with so many bytes lent. "past the last" place it is 51;
--- 32 is "judged last on every interval".
+-- An interval of the width w, with so many bytes lent: 51 for one "past the last" place, then 32, "judged last on every
+-- interval".
 unfoldable pub fedOf : Live → (w lent : ℕ) → Fed
 fedOf v w lent =
     cond (not (eqb (v .places .full) 0)) (refusedBy v PastPlaces)

@@ -1,6 +1,6 @@
--- What a live reader knows that was started and has heard the intervals ws, one after the other: all by what
--- reading those intervals as a recording says. A stranger need not believe it: `started` has it, every call keeps it, and the
--- laws of Whole.antt and History.antt speak of neither.
+-- What a live reader knows that was started and has heard the intervals ws, one after the other, all by what reading those
+-- intervals as a recording says. It is a step on the way: what live reading comes to, `live-whole`, `delivered-whole` and
+-- `calls-whole`, is said without it.
 use Prim.Native.Nat.{ℕ, _+_, _≤_}
 use mathlib.Core.Path.{_≡_}
 use mathlib.Core.Bool.{true}
