@@ -1,8 +1,56 @@
-// The contest bench: the calls on a lent row of stations, worked out. What each of them answers and leaves behind is
-// defined in `contest`, in document 01's words.
-mod row;
+// The contest bench: the types that callers see. What a round is, what each call answers and what it leaves behind are
+// defined in specs/, in document 01's words; the code that works them out stands in the rooms above.
+use symbol::Clock;
+use units::Micros;
 
-pub use row::load;
-pub use row::round;
-pub use row::set_clock;
-pub use row::withdraw;
+// A station of the row: its clock and its stored message, the first `len` of its bytes. A station of length 0 is empty;
+// what its bytes then hold counts for nothing. Laid out as C has it, since other languages lend a row of them.
+#[repr(C)]
+pub struct Station {
+    pub clock: Clock,
+    pub bytes: [u8; 11],
+    pub len: u8,
+}
+
+// How a place fared in a round: it held no message; its message went out whole; or it had to stop at a bit, counted from
+// 1 behind the SOF.
+pub enum Fared {
+    Idle,
+    Through,
+    Lost(usize),
+}
+
+// How a place fared, as one of the 32 verdicts of a round.
+pub struct Verdict {
+    pub fared: Fared,
+}
+
+// What loading, withdrawing and setting a clock answer. All but Done are refusals, and change nothing.
+pub enum Called {
+    Done,
+    RowSize,
+    UnsoundStation,
+    NoStation,
+    BadMessage,
+    BadClock,
+    Holding,
+    NothingWaiting,
+}
+
+// Whether a round was played, or why it was turned away.
+pub enum RoundTold {
+    Played,
+    RowSize,
+    UnsoundStation,
+    FewLentWords,
+    NobodyWaiting,
+}
+
+// What a round answers: how each of 32 places fared, idle past the row, with the number of words written and the line
+// time. Where the round was turned away nothing was written, all places are idle, and both numbers are 0.
+pub struct RoundAnswer {
+    pub told: RoundTold,
+    pub verdicts: [Verdict; 32],
+    pub words: usize,
+    pub line_time: Micros,
+}

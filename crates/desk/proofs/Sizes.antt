@@ -10,12 +10,12 @@ use Rattle.io.specs.Counts.{Counts}
 use Rattle.desk.specs.declared.Filled.{Filled}
 use Rattle.desk.specs.declared.Filled.the-variants.{Bytes}
 use Rattle.desk.specs.Filling.{Within}
-use Rattle.text.specs.declared.Answered.{Answered}
-use Rattle.text.specs.declared.Answered.the-variants.{Report, Refused}
-use Rattle.text.specs.Input.{lines, firstBad}
-use Rattle.text.specs.Report.{deskOf}
-use Rattle.text.specs.Calls.{mostText, Told, reported, turnedDown, short, lentShort, answering, answeredTold, pageTells, DeskPromise}
-use Rattle.text.specs.Whole.{desk-size}
+use Rattle.desk_text.specs.declared.Answered.{Answered}
+use Rattle.desk_text.specs.declared.Answered.the-variants.{Report, Refused}
+use Rattle.desk_text.specs.Input.{lines, firstBad}
+use Rattle.desk_text.specs.Report.{deskOf}
+use Rattle.desk_text.specs.Calls.{mostText, Told, reported, turnedDown, short, lentShort, answering, answeredTold, pageTells, DeskPromise}
+use Rattle.desk_text.specs.Whole.{desk-size}
 
 page-size : (s : List ℕ) (words bytes : ℕ) → pageTells (answering s words bytes) .length ≤ mostText
 unfolding answering

@@ -1,18 +1,18 @@
 // The desk: reads a recording's text and writes what the recording holds. What it writes for every input is defined in the
-// room `text`; here a file or standard input is read, and the text is written.
+// room `desk_text`; here a file or standard input is read, and the text is written.
 mod help;
 
 ghost use mathlib.Core.Path.{_≡_};
 ghost use Prim.Native.Nat.{_+_};
 ghost use lib.ListN.{length};
-ghost use Rattle.text.specs.Enough.{mostInput};
-ghost use Rattle.text.specs.Input.{mostWidths};
-ghost use Rattle.text.specs.Calls.{mostText};
+ghost use Rattle.desk_text.specs.Enough.{mostInput};
+ghost use Rattle.desk_text.specs.Input.{mostWidths};
+ghost use Rattle.desk_text.specs.Calls.{mostText};
 ghost use Rattle.desk.specs.Filling.{Within};
+use desk_text::Answered;
 use libc::STDERR_FILENO;
 use libc::STDIN_FILENO;
 use libc::STDOUT_FILENO;
-use text::Answered;
 
 // One byte more than the longest good input has, so that an input that is too long is seen to be. What follows it changes
 // nothing, and is not read.
@@ -73,7 +73,7 @@ fn fill(fd: i32, buf: &mut [u8]) -> Filled
 fn answer(input: &[u8]) {
     let mut ws = words();
     let mut out = page();
-    let answered = report::desk(input, &mut ws, &mut out);
+    let answered = desk_report::desk(input, &mut ws, &mut out);
     match answered {
         Answered::Report { length } => {
             io::write_all(STDOUT_FILENO, &out[..length]);
@@ -108,11 +108,11 @@ fn serve_file(name: &[u8]) {
 
 // The one argument: `-`, `--help` or a name.
 fn serve_named(name: &[u8]) {
-    if field::same(name, b"-") {
+    if desk_field::same(name, b"-") {
         serve(STDIN_FILENO, b"standard input");
         return;
     }
-    if field::same(name, b"--help") {
+    if desk_field::same(name, b"--help") {
         help::print();
         return;
     }

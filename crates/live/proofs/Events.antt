@@ -7,13 +7,13 @@ use native.Mathlib.Omega.{arith}
 use lib.ListN.{length}
 use Rattle.symbol.specs.declared.Symbol.{Symbol}
 use Rattle.symbol.specs.Classes.{classOf, endOf}
-use Rattle.framing.specs.Line.{activeAt}
-use Rattle.framing.specs.Faults.{mostBytes}
-use Rattle.machine.specs.declared.Machine.{Machine}
-use Rattle.machine.specs.declared.Event.{Event}
-use Rattle.machine.specs.declared.Stepped.{Stepped}
-use Rattle.machine.specs.Steps.{stepOf}
-use Rattle.machine.specs.Laying.{laid, laidOf, laid-enough}
+use Rattle.frame.specs.Line.{activeAt}
+use Rattle.frame.specs.Faults.{mostBytes}
+use Rattle.frame_machine.specs.declared.Machine.{Machine}
+use Rattle.frame_machine.specs.declared.Event.{Event}
+use Rattle.frame_machine.specs.declared.Stepped.{Stepped}
+use Rattle.frame_machine.specs.Steps.{stepOf}
+use Rattle.frame_machine.specs.Laying.{laid, laidOf, laid-enough}
 use Rattle.live.specs.declared.Inside.{Inside}
 use Rattle.live.specs.declared.Live.{Live}
 use Rattle.live.specs.AnyReader.{held-few}

@@ -1,5 +1,5 @@
 -- The answers of a live reader as the papers have them: the number of each, and the values that go with it.
-use Rattle.framing.specs.Answers.{faultNumber, Told, bare}
+use Rattle.frame.specs.Answers.{faultNumber, Told, bare}
 use mathlib.Core.List.{List, [], _∷_}
 use Rattle.live.specs.declared.Heard.{Heard}
 use Rattle.live.specs.declared.Heard.the-variants.{Nothing, Frame, Faulty, PastPlaces, FewLentBytes}

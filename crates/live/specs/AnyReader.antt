@@ -5,13 +5,13 @@ use mathlib.Core.Bool.{Bool, true, false, cond, not}
 use native.Mathlib.Omega.{arith}
 use lib.Dec.{eqb, leb, ltb}
 use borrow.Author.Tests.{leb-true}
-use Rattle.framing.specs.Faults.{mostBytes}
-use Rattle.machine.specs.declared.Phase.{Phase}
-use Rattle.machine.specs.declared.Phase.the-variants.{Sof, Main, Normalization, Plain, Checked}
-use Rattle.machine.specs.declared.Machine.{Machine}
-use Rattle.machine.specs.declared.Event.{Event}
-use Rattle.machine.specs.declared.Event.the-variants.{Going, Byte, Closed, Faulty as FaultyEvent}
-use Rattle.machine.specs.Parts.{partsIn, partsOf}
+use Rattle.frame.specs.Faults.{mostBytes}
+use Rattle.frame_machine.specs.declared.Phase.{Phase}
+use Rattle.frame_machine.specs.declared.Phase.the-variants.{Sof, Main, Normalization, Plain, Checked}
+use Rattle.frame_machine.specs.declared.Machine.{Machine}
+use Rattle.frame_machine.specs.declared.Event.{Event}
+use Rattle.frame_machine.specs.declared.Event.the-variants.{Going, Byte, Closed, Faulty as FaultyEvent}
+use Rattle.frame_machine.specs.Parts.{partsIn, partsOf}
 use Rattle.live.specs.declared.Inside.{Inside}
 use Rattle.live.specs.declared.Live.{Live}
 use Rattle.live.specs.declared.Heard.{Heard}

@@ -11,15 +11,15 @@ use lib.Dec.{eqb, leb}
 use lib.ListN.{length}
 use borrow.Author.Tests.{le-ltb, le-leb, lt-leb, ne-eqb}
 use Rattle.symbol.specs.declared.Symbol.the-variants.{Bit1, Eod}
-use Rattle.framing.specs.Line.{symbolAt, is, Found, nowhere, at, firstIn, bitsIn}
-use Rattle.framing.specs.Standing.{kindBy, Standing, atSof, atNormalization, inResponse, stands, standsBy}
-use Rattle.framing.specs.StandingLaws.{stands-sof}
-use Rattle.framing.specs.Faults.{mostBytes}
-use Rattle.framing.specs.Reading.{Outcome, quiet, unfinished, reading}
-use Rattle.framing.specs.Answers.{tells}
-use Rattle.framing.specs.Outcomes.{goesOn}
-use Rattle.machine.specs.declared.Machine.{Machine}
-use Rattle.machine.specs.Holding.{phaseOf, holding}
+use Rattle.frame.specs.Line.{symbolAt, is, Found, nowhere, at, firstIn, bitsIn}
+use Rattle.frame.specs.Standing.{kindBy, Standing, atSof, atNormalization, inResponse, stands, standsBy}
+use Rattle.frame.specs.StandingLaws.{stands-sof}
+use Rattle.frame.specs.Faults.{mostBytes}
+use Rattle.frame.specs.Reading.{Outcome, quiet, unfinished, reading}
+use Rattle.frame.specs.Answers.{tells}
+use Rattle.frame.specs.Outcomes.{goesOn}
+use Rattle.frame_machine.specs.declared.Machine.{Machine}
+use Rattle.frame_machine.specs.Holding.{phaseOf, holding}
 use Rattle.live.specs.declared.Inside.{Inside}
 use Rattle.live.specs.declared.Live.{Live}
 use Rattle.live.specs.Feeding.{phaseNumber, insideOf, outside, askedOf}

@@ -7,19 +7,19 @@ use lib.Dec.{eqb, leb, ltb}
 use lib.ListN.{length, set, replicate}
 use Rattle.units.specs.declared.LongPlace.{LongPlace}
 use Rattle.symbol.specs.Classes.{classOf, endOf}
-use Rattle.framing.specs.declared.Fault.{Fault}
-use Rattle.framing.specs.Line.{activeAt}
-use Rattle.framing.specs.Faults.{mostBytes}
-use Rattle.machine.specs.declared.Phase.{Phase}
-use Rattle.machine.specs.declared.Phase.the-variants.{Sof, Main, Normalization, Plain, Checked}
-use Rattle.machine.specs.declared.Machine.{Machine}
-use Rattle.machine.specs.declared.Event.{Event}
-use Rattle.machine.specs.declared.Event.the-variants.{Going, Byte, Closed, Faulty}
-use Rattle.machine.specs.declared.Stepped.{Stepped}
-use Rattle.machine.specs.Steps.{fresh, stepOf}
-use Rattle.machine.specs.declared.parts.Parts.{Parts}
-use Rattle.machine.specs.Laying.{laid}
-use Rattle.machine.specs.Parts.{partsOf}
+use Rattle.frame.specs.declared.Fault.{Fault}
+use Rattle.frame.specs.Line.{activeAt}
+use Rattle.frame.specs.Faults.{mostBytes}
+use Rattle.frame_machine.specs.declared.Phase.{Phase}
+use Rattle.frame_machine.specs.declared.Phase.the-variants.{Sof, Main, Normalization, Plain, Checked}
+use Rattle.frame_machine.specs.declared.Machine.{Machine}
+use Rattle.frame_machine.specs.declared.Event.{Event}
+use Rattle.frame_machine.specs.declared.Event.the-variants.{Going, Byte, Closed, Faulty}
+use Rattle.frame_machine.specs.declared.Stepped.{Stepped}
+use Rattle.frame_machine.specs.Steps.{fresh, stepOf}
+use Rattle.frame_machine.specs.declared.parts.Parts.{Parts}
+use Rattle.frame_machine.specs.Laying.{laid}
+use Rattle.frame_machine.specs.Parts.{partsOf}
 use Rattle.live.specs.declared.Places.{Places}
 use Rattle.live.specs.declared.Inside.{Inside}
 use Rattle.live.specs.declared.Live.{Live}

@@ -8,12 +8,12 @@ use lib.Dec.{eqb}
 use lib.ListN.{length, replicate}
 use borrow.Author.Tests.{le-ltb, eq-eqb}
 use Rattle.symbol.specs.Classes.{endOf}
-use Rattle.framing.specs.Line.{activeAt, first, opening}
-use Rattle.framing.specs.Faults.{mostBytes}
-use Rattle.framing.specs.Reading.{Outcome}
-use Rattle.machine.specs.declared.Phase.{Phase}
-use Rattle.machine.specs.declared.Phase.the-variants.{Sof, Main, Normalization, Plain, Checked}
-use Rattle.machine.specs.declared.Machine.{Machine}
+use Rattle.frame.specs.Line.{activeAt, first, opening}
+use Rattle.frame.specs.Faults.{mostBytes}
+use Rattle.frame.specs.Reading.{Outcome}
+use Rattle.frame_machine.specs.declared.Phase.{Phase}
+use Rattle.frame_machine.specs.declared.Phase.the-variants.{Sof, Main, Normalization, Plain, Checked}
+use Rattle.frame_machine.specs.declared.Machine.{Machine}
 use Rattle.live.specs.declared.Inside.{Inside}
 use Rattle.live.specs.declared.Live.{Live}
 use Rattle.live.specs.Feeding.{lastPlace, noFrame, phaseNumber, insideOf, outside, started, endsAt, takenOf, fedOf, lentOf}

@@ -11,16 +11,16 @@ use Rattle.symbol.specs.declared.Clock.{Clock}
 use Rattle.symbol.specs.Clocks.{goodOf}
 use Rattle.symbol.specs.SendingLaws.{good as good-clock}
 use Rattle.checkbyte.specs.Register.{withCheck}
-use Rattle.framing.specs.declared.Response.{Response}
+use Rattle.frame.specs.declared.Response.{Response}
 use Rattle.checkbyte.specs.Differ.{Bytes}
-use Rattle.framing.specs.Line.{at, opening}
-use Rattle.framing.specs.Faults.{mostBytes}
-use Rattle.framing.specs.Reading.{Outcome, good, quiet, reading}
-use Rattle.framing.specs.Writing.{responseSent, badMessage, frameWords}
-use Rattle.framing.specs.Waves.{FrameWave}
-use Rattle.framing.specs.ReadBack.{wave-few, reads-wave}
-use Rattle.framing.specs.WrittenBack.{written-wave}
-use Rattle.framing.specs.ReadingOn.{nextOf, progress, ReadsOn, last, more, closing-opens}
+use Rattle.frame.specs.Line.{at, opening}
+use Rattle.frame.specs.Faults.{mostBytes}
+use Rattle.frame.specs.Reading.{Outcome, good, quiet, reading}
+use Rattle.frame.specs.Writing.{responseSent, badMessage, frameWords}
+use Rattle.frame.specs.Waves.{FrameWave}
+use Rattle.frame.specs.ReadBack.{wave-few, reads-wave}
+use Rattle.frame.specs.WrittenBack.{written-wave}
+use Rattle.frame.specs.ReadingOn.{nextOf, progress, ReadsOn, last, more, closing-opens}
 use Rattle.live.specs.Feeding.{started}
 use Rattle.live.specs.Shown.{Comes, recording, Enough, afterAll, showsAll, reads, showsAsked}
 use Rattle.live.specs.Whole.{live-whole}

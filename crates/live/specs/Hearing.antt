@@ -6,14 +6,14 @@ use mathlib.Core.Path.{_≡_}
 use mathlib.Core.Bool.{true}
 use mathlib.Core.List.{List, [], _∷_, _++_}
 use lib.ListN.{length}
-use Rattle.framing.specs.Line.{nowhere, at, firstIn, opening}
-use Rattle.framing.specs.Faults.{mostBytes}
-use Rattle.framing.specs.Reading.{Outcome, decides, reading}
-use Rattle.framing.specs.Answers.{tells, lentAfter}
-use Rattle.framing.specs.Outcomes.{goesOn}
-use Rattle.framing.specs.ReadingOn.{nextOf}
-use Rattle.machine.specs.declared.Machine.{Machine}
-use Rattle.machine.specs.Following.{Before}
+use Rattle.frame.specs.Line.{nowhere, at, firstIn, opening}
+use Rattle.frame.specs.Faults.{mostBytes}
+use Rattle.frame.specs.Reading.{Outcome, decides, reading}
+use Rattle.frame.specs.Answers.{tells, lentAfter}
+use Rattle.frame.specs.Outcomes.{goesOn}
+use Rattle.frame.specs.ReadingOn.{nextOf}
+use Rattle.frame_machine.specs.declared.Machine.{Machine}
+use Rattle.frame_machine.specs.Following.{Before}
 use Rattle.live.specs.declared.Places.{Places}
 use Rattle.live.specs.declared.Inside.{Inside}
 use Rattle.live.specs.declared.Live.{Live}

@@ -8,9 +8,9 @@ use native.Mathlib.Omega.{arith}
 use lib.Dec.{eqb, ltb}
 use lib.ListN.{length, length-append}
 use borrow.Author.Tests.{eqb-true, ltb-false}
-use Rattle.framing.specs.Faults.{mostBytes}
-use Rattle.framing.specs.Reading.{Outcome}
-use Rattle.framing.specs.ReadingOn.{ReadsOn}
+use Rattle.frame.specs.Faults.{mostBytes}
+use Rattle.frame.specs.Reading.{Outcome}
+use Rattle.frame.specs.ReadingOn.{ReadsOn}
 use Rattle.live.specs.declared.Live.{Live}
 use Rattle.live.specs.Feeding.{lastPlace, started, fedOf}
 use Rattle.live.specs.Hearing.{Counts, room, all-heard, Hears, Takes, decides-nothing, decides-one}

@@ -9,15 +9,15 @@ use native.Mathlib.Nat.{eq-or-lt-of-le}
 use lib.Dec.{eqb}
 use lib.ListN.{length}
 use borrow.Author.Tests.{le-leb, eq-eqb, ne-eqb}
-use Rattle.framing.specs.Line.{endAt, nowhere, at, firstIn, opening}
-use Rattle.framing.specs.Faults.{mostBytes}
-use Rattle.framing.specs.Reading.{Outcome, decides}
-use Rattle.framing.specs.FirstLaws.{first-next, first-empty}
-use Rattle.machine.specs.declared.Phase.{Phase}
-use Rattle.machine.specs.declared.Phase.the-variants.{Sof, Main, Normalization, Plain, Checked}
-use Rattle.machine.specs.declared.Machine.{Machine}
-use Rattle.machine.specs.Steps.{fresh}
-use Rattle.machine.specs.Following.{Before, at-first}
+use Rattle.frame.specs.Line.{endAt, nowhere, at, firstIn, opening}
+use Rattle.frame.specs.Faults.{mostBytes}
+use Rattle.frame.specs.Reading.{Outcome, decides}
+use Rattle.frame.specs.FirstLaws.{first-next, first-empty}
+use Rattle.frame_machine.specs.declared.Phase.{Phase}
+use Rattle.frame_machine.specs.declared.Phase.the-variants.{Sof, Main, Normalization, Plain, Checked}
+use Rattle.frame_machine.specs.declared.Machine.{Machine}
+use Rattle.frame_machine.specs.Steps.{fresh}
+use Rattle.frame_machine.specs.Following.{Before, at-first}
 use Rattle.live.specs.declared.Places.{Places}
 use Rattle.live.specs.declared.Live.{Live}
 use Rattle.live.specs.Feeding.{lastPlace, phaseNumber, phaseBy, heldBy, insideOf, behind, beginsAnew}

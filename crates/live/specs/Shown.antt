@@ -3,9 +3,9 @@
 use Prim.Native.Nat.{ℕ, _+_, _≤_}
 use mathlib.Core.List.{List, [], _∷_, _++_, map}
 use lib.ListN.{length, take}
-use Rattle.framing.specs.Faults.{mostBytes}
-use Rattle.framing.specs.Reading.{Outcome}
-use Rattle.framing.specs.Answers.{Told, tells, written}
+use Rattle.frame.specs.Faults.{mostBytes}
+use Rattle.frame.specs.Reading.{Outcome}
+use Rattle.frame.specs.Answers.{Told, tells, written}
 use Rattle.live.specs.declared.Live.{Live}
 use Rattle.live.specs.Feeding.{fedOf, lentOf, askedOf}
 use Rattle.live.specs.Answers.{toldBy, askedTold}

@@ -7,23 +7,23 @@ use native.Mathlib.Omega.{arith}
 use lib.ListN.{length, getD, set, length-append, List·getD-append}
 use lib.Seq.{getD-append-seam}
 use Rattle.symbol.specs.Classes.{classOf, endOf}
-use Rattle.framing.specs.Line.{activeAt, symbolAt, endAt, Found, nowhere, at, firstIn, opening}
-use Rattle.framing.specs.Standing.{Standing, stands}
-use Rattle.framing.specs.Faults.{mostBytes, facts, mainBytes, responseBytes}
-use Rattle.framing.specs.Reading.{Outcome, good, faulty, decides, decidedBy, reading}
-use Rattle.framing.specs.Answers.{faultNumber}
-use Rattle.framing.specs.FirstLaws.{IsFirst, first-at, first-next, first-empty}
-use Rattle.framing.specs.Outcomes.{Opens, opened-reading, goesOn}
-use Rattle.framing.specs.ReadingOn.{nextOf, progress}
-use Rattle.framing.specs.Longer.{first-same, end-same, stands-same, decides-same, reading-stays}
-use Rattle.machine.specs.declared.Machine.{Machine}
-use Rattle.machine.specs.declared.Event.{Event}
-use Rattle.machine.specs.declared.Event.the-variants.{Going, Byte, Closed, Faulty}
-use Rattle.machine.specs.Steps.{stepOf}
-use Rattle.machine.specs.Holding.{holding, Kept}
-use Rattle.machine.specs.HoldingLaws.{count-of}
-use Rattle.machine.specs.PartLaws.{parts-held}
-use Rattle.machine.specs.Following.{Before, Says, some-fault, held-few, held-began, says-by}
+use Rattle.frame.specs.Line.{activeAt, symbolAt, endAt, Found, nowhere, at, firstIn, opening}
+use Rattle.frame.specs.Standing.{Standing, stands}
+use Rattle.frame.specs.Faults.{mostBytes, facts, mainBytes, responseBytes}
+use Rattle.frame.specs.Reading.{Outcome, good, faulty, decides, decidedBy, reading}
+use Rattle.frame.specs.Answers.{faultNumber}
+use Rattle.frame.specs.FirstLaws.{IsFirst, first-at, first-next, first-empty}
+use Rattle.frame.specs.Outcomes.{Opens, opened-reading, goesOn}
+use Rattle.frame.specs.ReadingOn.{nextOf, progress}
+use Rattle.frame.specs.Longer.{first-same, end-same, stands-same, decides-same, reading-stays}
+use Rattle.frame_machine.specs.declared.Machine.{Machine}
+use Rattle.frame_machine.specs.declared.Event.{Event}
+use Rattle.frame_machine.specs.declared.Event.the-variants.{Going, Byte, Closed, Faulty}
+use Rattle.frame_machine.specs.Steps.{stepOf}
+use Rattle.frame_machine.specs.Holding.{holding, Kept}
+use Rattle.frame_machine.specs.HoldingLaws.{count-of}
+use Rattle.frame_machine.specs.PartLaws.{parts-held}
+use Rattle.frame_machine.specs.Following.{Before, Says, some-fault, held-few, held-began, says-by}
 use Rattle.live.specs.declared.Live.{Live}
 use Rattle.live.specs.Feeding.{lastPlace, heldBy, insideOf, behind, beginsAnew, goesOn as goesOnWith, fedBy, stepAt, endsAt, laidBy}
 use Rattle.live.specs.Hearing.{Reached, none-yet, one-more, Counts, hears, Hears, Takes, decides-nothing, decides-one}

@@ -9,11 +9,11 @@ use native.Mathlib.Omega.{arith}
 use lib.ListN.{length, drop, length-append, length-map}
 use lib.Seq.{take-at}
 use Rattle.laws.specs.Tests.{never}
-use Rattle.framing.specs.Faults.{mostBytes}
-use Rattle.framing.specs.Reading.{Outcome, good, quiet, unfinished, faulty, refused, reading}
-use Rattle.framing.specs.Answers.{Told, tells, lentAfter}
-use Rattle.framing.specs.Outcomes.{goesOn}
-use Rattle.framing.specs.ReadingOn.{ReadsOn, last, more, reads-once}
+use Rattle.frame.specs.Faults.{mostBytes}
+use Rattle.frame.specs.Reading.{Outcome, good, quiet, unfinished, faulty, refused, reading}
+use Rattle.frame.specs.Answers.{Told, tells, lentAfter}
+use Rattle.frame.specs.Outcomes.{goesOn}
+use Rattle.frame.specs.ReadingOn.{ReadsOn, last, more, reads-once}
 use Rattle.live.specs.declared.Live.{Live}
 use Rattle.live.specs.Feeding.{lastPlace, started, fedOf, lentOf, askedOf}
 use Rattle.live.specs.Answers.{askedTold}

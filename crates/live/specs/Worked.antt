@@ -5,11 +5,11 @@ use mathlib.Core.List.{List, [], _∷_, _++_, map}
 use lib.ListN.{replicate}
 use Rattle.symbol.specs.Classes.{classOf, endOf}
 use Rattle.checkbyte.specs.Register.{shift, eightShifts, stepOf as registerStep}
-use Rattle.framing.specs.declared.Response.the-variants.{Without}
-use Rattle.framing.specs.Faults.{mostBytes}
-use Rattle.framing.specs.Reading.{good, quiet}
-use Rattle.framing.specs.WorkedReading.{ffff}
-use Rattle.machine.specs.Steps.{pushOf, bitOf, sofOf, closeOf}
+use Rattle.frame.specs.declared.Response.the-variants.{Without}
+use Rattle.frame.specs.Faults.{mostBytes}
+use Rattle.frame.specs.Reading.{good, quiet}
+use Rattle.frame.specs.WorkedReading.{ffff}
+use Rattle.frame_machine.specs.Steps.{pushOf, bitOf, sofOf, closeOf}
 use Rattle.live.specs.Feeding.{heldBy, insideOf, outside, behind, started, beginsAnew, goesOn, takenOf, fedOf, lentOf, askedOf}
 use Rattle.live.specs.Shown.{Comes, showsAll, afterAll, showsAsked, reads}
 

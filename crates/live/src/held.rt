@@ -3,9 +3,9 @@
 ghost use mathlib.Core.Path.{_≡_};
 ghost use Rattle.live.specs.Feeding.{phaseNumber, phaseBy, least as leastOf, heldBy, insideOf, outside as outsideOf};
 use crate::Inside;
-use machine::MOST_BYTES;
-use machine::Machine;
-use machine::Phase;
+use frame_machine::MOST_BYTES;
+use frame_machine::Machine;
+use frame_machine::Phase;
 
 // The number of each phase in a reader; before an opening there is no frame and no phase.
 pub const NO_FRAME: u16 = 0;

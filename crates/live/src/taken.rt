@@ -2,8 +2,8 @@
 ghost use mathlib.Core.Path.{_≡_};
 ghost use Prim.Native.Nat.{_≤_};
 ghost use lib.ListN.{length};
-ghost use Rattle.framing.specs.Faults.{mostBytes};
-ghost use Rattle.framing.specs.Line.{activeAt};
+ghost use Rattle.frame.specs.Faults.{mostBytes};
+ghost use Rattle.frame.specs.Line.{activeAt};
 ghost use Rattle.live.specs.Feeding.{behind as behindOf, beginsAnew, goesOn, laidBy, stillOpen, closedFrame, faultHeard, waiting, fedBy, stepAt, endsAt};
 use crate::Fed;
 use crate::Heard;
@@ -12,10 +12,10 @@ use crate::Places;
 use crate::held::held_by;
 use crate::held::inside_of;
 use crate::held::outside;
-use framing::Fault;
-use machine::Event;
-use machine::MOST_BYTES;
-use machine::Machine;
+use frame::Fault;
+use frame_machine::Event;
+use frame_machine::MOST_BYTES;
+use frame_machine::Machine;
 use units::LongPlace;
 use units::Micros;
 
@@ -64,7 +64,7 @@ fn begins_anew(live: Live, from: u64, end: bool) -> Live
     if end {
         return Live {
             places: behind(places, from, here),
-            inside: inside_of(machine::start(), kept),
+            inside: inside_of(frame_machine::start(), kept),
         };
     }
     Live {
@@ -103,7 +103,7 @@ fn closed(live: Live, machine: Machine, end: bool) -> Fed
     let places = live.places;
     let closing = places.next;
     let opening = places.opening;
-    let parts = machine::parts_of(machine);
+    let parts = frame_machine::parts_of(machine);
     let lengths = parts.lengths;
     let response = parts.response;
     Fed {
@@ -159,7 +159,7 @@ pub(crate) fn inside_frame(live: Live, width: Micros, lent: &mut [u8]) -> Fed
     let end = symbol::is_end(active, width);
     let held = held_by(inside);
     let count = held.count;
-    let stepped = machine::step(held, symbol::class(active, width));
+    let stepped = frame_machine::step(held, symbol::class(active, width));
     let event = stepped.event;
     let then = stepped.machine;
     match event {
@@ -169,7 +169,7 @@ pub(crate) fn inside_frame(live: Live, width: Micros, lent: &mut [u8]) -> Fed
             going(live, then, kept)
         }
         Event::Closed => {
-            machine::lay(kept, count, lent);
+            frame_machine::lay(kept, count, lent);
             closed(live, held, end)
         }
         Event::Faulty(fault) => at_fault(live, fault, end),

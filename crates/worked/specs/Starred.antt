@@ -15,12 +15,12 @@ use Rattle.volts.specs.declared.Gate.{Gate}
 use Rattle.volts.specs.Judging.{judged, against, isFinite}
 use Rattle.volts.specs.Intervals.{intervalsOf}
 use Rattle.volts.specs.Starred.{usualGate, volts, sameWidths}
-use Rattle.framing.specs.Bits.{bitsOf}
-use Rattle.framing.specs.Line.{is}
-use Rattle.contest.specs.declared.Station.{Station}
-use Rattle.contest.specs.Round.{asked, shortest, longest, onLine, play}
-use Rattle.contest.specs.Contest.{pulsesOf, sofsAsked, sumOf, contestOf, roundOf}
-use Rattle.contest.specs.Worked.{holds, clockOf, losesAt, lasts}
+use Rattle.frame.specs.Bits.{bitsOf}
+use Rattle.frame.specs.Line.{is}
+use Rattle.bench.specs.declared.Station.{Station}
+use Rattle.bench.specs.Round.{asked, shortest, longest, onLine, play}
+use Rattle.bench.specs.Contest.{pulsesOf, sofsAsked, sumOf, contestOf, roundOf}
+use Rattle.bench.specs.Worked.{holds, clockOf, losesAt, lasts}
 
 -- A starred item: what is given, and what document 01 says comes of it.
 pub data Item : Type 0 where

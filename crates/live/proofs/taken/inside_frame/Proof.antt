@@ -2,7 +2,7 @@
 use denote.Ref.{now}
 use mathlib.Core.Path.{_∙_}
 use Rattle.live.proofs.Events.{laid-held, steps-by, fed-by, laid-by}
-use Rattle.machine.specs.Room.{has-room}
+use Rattle.frame_machine.specs.Room.{has-room}
 use borrow.Author.Needs.{needs}
 use Rattle.live.proofs.taken.inside_frame.Statement.{statement}
 use Rattle.live.proofs.taken.inside_frame.Tie as tie

@@ -1,0 +1,112 @@
+-- A round is settled: its promise leaves one answer, one row and one state of the lent words, and each refusal comes exactly
+-- when document 01 says so, with the row and the words as they were.
+use Prim.Native.Nat.{ℕ, _≤_}
+use mathlib.Core.Path.{_≡_, refl, sym, ap, _∙_}
+use mathlib.Core.Bool.{Bool, true, false, cond}
+use mathlib.Core.List.{List, [], _∷_}
+use native.Mathlib.Omega.{arith}
+use lib.Dec.{eqb}
+use lib.ListN.{take}
+use borrow.Author.Tests.{ne-eqb, eqb-true}
+use Rattle.laws.specs.Settled.{settled}
+use Rattle.bench.specs.declared.Station.{Station}
+use Rattle.bench.specs.declared.RoundTold.{RoundTold}
+use Rattle.bench.specs.declared.RoundAnswer.{RoundAnswer}
+use Rattle.bench.specs.Contest.{roundOf}
+use Rattle.bench.specs.Calls.{round, rowSize, unsoundStation, fewWords, nobodyWaiting, numberOf, taken, lentAfter}
+use Rattle.bench.specs.Promises.{toldNumber, RoundSaid, said, played, turnedAway, roundSays, RoundPromise}
+use Rattle.bench.specs.Refusals.{TurnedAway, rulesOf, Alone, alone, stops-at}
+use Rattle.bench.specs.Taken.{rulesFor, ruleAt, number-is}
+use Rattle.bench.specs.RowSettled.{turned-away}
+
+-- ## One answer, one row, one state of the words
+
+-- what is told, back from its number
+abbrev toldOf : ℕ → RoundTold
+toldOf n =
+    cond (eqb n 0) RoundTold.Played
+    (cond (eqb n 38) RoundTold.RowSize
+    (cond (eqb n 39) RoundTold.UnsoundStation
+    (cond (eqb n 32) RoundTold.FewLentWords RoundTold.NobodyWaiting)))
+
+back : (t : RoundTold) → toldOf (toldNumber t) ≡ t
+back RoundTold.Played = refl
+back RoundTold.RowSize = refl
+back RoundTold.UnsoundStation = refl
+back RoundTold.FewLentWords = refl
+back RoundTold.NobodyWaiting = refl
+
+-- the answer back from what is said
+abbrev answerOf : RoundSaid → RoundAnswer
+answerOf r = record { told = toldOf (r .number); verdicts = r .verdicts; words = r .words; «line_time» = record { 0 = r .lineTime } }
+
+answer-back : (a : RoundAnswer) → answerOf (said a) ≡ a
+answer-back a = ap (λ (t : RoundTold). record { told = t; verdicts = a .verdicts; words = a .words; «line_time» = a .«line_time» }) (back (a .told))
+
+-- Two answers with the same number, verdicts, words and line time are the same answer.
+pub said-once : (a b : RoundAnswer) → said a ≡ said b → a ≡ b
+said-once a b e = sym (answer-back a) ∙ ap answerOf e ∙ answer-back b
+
+-- No second answer, no other row and no other words meet the promise of a round.
+pub round-settled : {entry exit exit' : List Station} {lentEntry lentExit lentExit' : List ℕ} {a b : RoundAnswer}
+    → RoundPromise entry exit lentEntry lentExit a → RoundPromise entry exit' lentEntry lentExit' b
+    → (a ≡ b) × (exit ≡ exit') × (lentExit ≡ lentExit')
+round-settled {a} {b} p q =
+    (said-once a b (settled (p .says-it) (q .says-it)), settled (p .leaves-it) (q .leaves-it), settled (p .lends-it) (q .lends-it))
+
+-- ## The refusals
+
+-- the number that a round says is the one that the rules give
+pub says-number : (row : List Station) (lent : List ℕ) → roundSays row lent .number ≡ numberOf (round lent) row
+unfolding roundSays taken
+says-number row lent = go (eqb (numberOf (round lent) row) 0) refl
+  where
+    go : (t : Bool) → eqb (numberOf (round lent) row) 0 ≡ t
+        → cond t (played (roundOf row)) (turnedAway (numberOf (round lent) row)) .number ≡ numberOf (round lent) row
+    go true e = sym (eqb-true (numberOf (round lent) row) 0 e)
+    go false e = refl
+
+-- A round that is turned away says so and nothing else, and leaves the row and the words as they were.
+pub record AsItWas (n : ℕ) (entry exit : List Station) (lentEntry lentExit : List ℕ) (a : RoundAnswer) : Type 0 where
+  pub row : exit ≡ entry
+  pub words : lentExit ≡ lentEntry
+  pub answer : said a ≡ turnedAway n
+
+module _ {entry exit : List Station} {lentEntry lentExit : List ℕ} {a : RoundAnswer} (p : RoundPromise entry exit lentEntry lentExit a) where
+  its-number : toldNumber (a .told) ≡ numberOf (round lentEntry) entry
+  its-number = ap (λ (r : RoundSaid). r .number) (p .says-it) ∙ says-number entry lentEntry
+
+  as-it-was : (n : ℕ) → 1 ≤ n → numberOf (round lentEntry) entry ≡ n → AsItWas n entry exit lentEntry lentExit a
+  unfolding lentAfter roundSays taken
+  as-it-was n h e =
+      let z : eqb (numberOf (round lentEntry) entry) 0 ≡ false = ne-eqb (numberOf (round lentEntry) entry) 0 (λ q. omega arith) in
+      record {
+        row = p .leaves-it ∙ turned-away (round lentEntry) entry n h e;
+        words = p .lends-it ∙ rw z;
+        answer = p .says-it ∙ rw (z, e);
+      }
+
+  refusal : (k : ℕ) → 1 ≤ ruleAt (round lentEntry) entry k .number → Alone (rulesFor (round lentEntry) entry) k
+      → TurnedAway (toldNumber (a .told)) (ruleAt (round lentEntry) entry k .number) (rulesOf (take k (rulesFor (round lentEntry) entry)))
+      (ruleAt (round lentEntry) entry k .holds) (AsItWas (ruleAt (round lentEntry) entry k .number) entry exit lentEntry lentExit a)
+  refusal k l h =
+      record {
+        exactly = rw (its-number, number-is (round lentEntry) entry) (stops-at (rulesFor (round lentEntry) entry) k h);
+        unchanged = λ q. as-it-was (ruleAt (round lentEntry) entry k .number) l (sym its-number ∙ q);
+      }
+
+  -- 38: "row of 0 or over 32 stations"
+  pub round-38 : TurnedAway (toldNumber (a .told)) 38 [] (rowSize entry) (AsItWas 38 entry exit lentEntry lentExit a)
+  round-38 = refusal 0 (omega arith) (alone refl refl refl)
+
+  -- 39: "a station in the row with a stored length over 11 or a bad clock"
+  pub round-39 : TurnedAway (toldNumber (a .told)) 39 (rowSize entry ∷ []) (unsoundStation entry) (AsItWas 39 entry exit lentEntry lentExit a)
+  round-39 = refusal 1 (omega arith) (alone refl refl refl)
+
+  -- 32: "lent words under 101"
+  pub round-32 : TurnedAway (toldNumber (a .told)) 32 (rowSize entry ∷ unsoundStation entry ∷ []) (fewWords lentEntry) (AsItWas 32 entry exit lentEntry lentExit a)
+  round-32 = refusal 2 (omega arith) (alone refl refl refl)
+
+  -- 42: "nobody waiting"
+  pub round-42 : TurnedAway (toldNumber (a .told)) 42 (rowSize entry ∷ unsoundStation entry ∷ fewWords lentEntry ∷ []) (nobodyWaiting entry) (AsItWas 42 entry exit lentEntry lentExit a)
+  round-42 = refusal 3 (omega arith) (alone refl refl refl)

@@ -1,0 +1,217 @@
+// The calls at one place of a row by value: loading, withdrawing and setting a clock. Each rule that turns a call away is
+// one test, and they stand in document 01's order.
+ghost use Prim.Native.Nat.{_<_, _≤_};
+ghost use mathlib.Core.Path.{_≡_};
+ghost use mathlib.Core.Bool.{_||_};
+ghost use lib.Dec.{eqb, ltb};
+ghost use lib.ListN.{length};
+ghost use Rattle.bench.specs.Stations.{mostStations, mostStored};
+ghost use Rattle.bench.specs.Calls as Calls;
+ghost use Rattle.bench.specs.Calls.{clocked};
+ghost use Rattle.bench.specs.Promises.{calledNumber};
+ghost use Rattle.bench_calls.specs.Changes.{withOf, rowNumber, doneWith, ChangedBy, loadRules, loadNumber, loadedBench, withdrawRules, withdrawNumber, withdrawnBench, clockRules, clockNumber, clockedBench};
+use bench::Called;
+use bench::Station;
+use bench_row::Bench;
+use symbol::Clock;
+
+// The places of a row by value, and the most bytes that a station stores.
+const MOST_STATIONS: usize = 32;
+
+const MOST_STORED: usize = 11;
+
+// What a call answers, and the bench after it.
+pub struct Changed {
+    pub bench: Bench,
+    pub called: Called,
+}
+
+// What every call at a place is turned away for first: the row's size, an unsound station in it, no station there.
+fn row_call(bench: Bench, place: usize) -> Called
+    ensures { λ r. ⌜ calledNumber r ≡ rowNumber bench place ⌝ }
+{
+    let at = bench.at;
+    let asked = bench_row::survey_all(at);
+    if bench_row::bad_size(bench.count) {
+        return Called::RowSize;
+    }
+    if !asked.sound {
+        return Called::UnsoundStation;
+    }
+    if bench.count <= place {
+        return Called::NoStation;
+    }
+    Called::Done
+}
+
+// Whether a call goes on behind the rules that have been judged so far.
+fn is_done(called: Called) -> bool
+    ensures { λ r. ⌜ r ≡ eqb (calledNumber called) 0 ⌝ }
+{
+    match called {
+        Called::Done => true,
+        _ => false,
+    }
+}
+
+// ## Loading
+
+// Loads a message at a place.
+pub fn load_on(bench: Bench, place: usize, message: &[u8]) -> Changed
+    ensures { λ r. ⌜ ChangedBy bench (loadNumber bench place (now (message .entry))) (loadedBench bench place (now (message .entry))) r ⌝ }
+{
+    let called = row_call(bench, place);
+    if is_done(called) {
+        return load_at(bench, place, message);
+    }
+    Changed { bench, called }
+}
+
+// The same at a place that there is.
+fn load_at(bench: Bench, place: usize, message: &[u8]) -> Changed
+    requires { ⌜ place < mostStations ⌝ }
+    ensures { λ r. ⌜ ChangedBy bench (loadRules bench place (now (message .entry))) (loadedBench bench place (now (message .entry))) r ⌝ }
+{
+    let station = bench.at[place];
+    let bad = bad_message(message.len());
+    let holding = 0 < station.len;
+    if bad {
+        return Changed {
+            bench,
+            called: Called::BadMessage,
+        };
+    }
+    if holding {
+        return Changed {
+            bench,
+            called: Called::Holding,
+        };
+    }
+    let next = loaded(station, message);
+    taken(bench, place, next)
+}
+
+// Whether a message of so many bytes is empty, or has more than 11.
+fn bad_message(count: usize) -> bool
+    ensures { λ r. ⌜ r ≡ (eqb count 0 || ltb mostStored count) ⌝ }
+{
+    if count == 0 {
+        return true;
+    }
+    MOST_STORED < count
+}
+
+// A station with a message: the bytes stand first, and their number is the length.
+fn loaded(station: Station, message: &[u8]) -> Station
+    requires { ⌜ length (now message) ≤ mostStored ⌝ }
+    ensures { λ r. ⌜ r ≡ Calls.loaded (now (message .entry)) station ⌝ }
+{
+    let clock = station.clock;
+    let mut stored = station.bytes;
+    bytes::copy(message, &mut stored);
+    Station {
+        clock,
+        bytes: stored,
+        len: length_of(message.len()),
+    }
+}
+
+// The number of a message's bytes, as a station keeps it.
+fn length_of(count: usize) -> u8
+    requires { ⌜ count ≤ mostStored ⌝ }
+    ensures { λ r. ⌜ r ≡ count ⌝ }
+{
+    count as u8
+}
+
+// A call that is taken: the bench with another station at a place.
+fn taken(bench: Bench, place: usize, station: Station) -> Changed
+    ensures { λ r. ⌜ r ≡ doneWith bench place station ⌝ }
+{
+    let next = with(bench, place, station);
+    Changed {
+        bench: next,
+        called: Called::Done,
+    }
+}
+
+// The bench with a station put at place i. A place past the 32nd is not kept.
+fn with(bench: Bench, i: usize, station: Station) -> Bench
+    ensures { λ r. ⌜ r ≡ withOf bench i station ⌝ }
+{
+    let mut next = bench;
+    if i < MOST_STATIONS {
+        next.at[i] = station;
+    }
+    next
+}
+
+// ## Withdrawing
+
+// Withdraws the message at a place.
+pub fn withdraw_on(bench: Bench, place: usize) -> Changed
+    ensures { λ r. ⌜ ChangedBy bench (withdrawNumber bench place) (withdrawnBench bench place) r ⌝ }
+{
+    let called = row_call(bench, place);
+    if is_done(called) {
+        return withdraw_at(bench, place);
+    }
+    Changed { bench, called }
+}
+
+// The same at a place that there is.
+fn withdraw_at(bench: Bench, place: usize) -> Changed
+    requires { ⌜ place < mostStations ⌝ }
+    ensures { λ r. ⌜ ChangedBy bench (withdrawRules bench place) (withdrawnBench bench place) r ⌝ }
+{
+    let station = bench.at[place];
+    if station.len == 0 {
+        return Changed {
+            bench,
+            called: Called::NothingWaiting,
+        };
+    }
+    let next = bench_row::empty(station);
+    taken(bench, place, next)
+}
+
+// ## Setting a clock
+
+// Sets the clock at a place.
+pub fn set_clock_on(bench: Bench, place: usize, clock: Clock) -> Changed
+    ensures { λ r. ⌜ ChangedBy bench (clockNumber bench place clock) (clockedBench bench place clock) r ⌝ }
+{
+    let called = row_call(bench, place);
+    if is_done(called) {
+        return set_clock_at(bench, place, clock);
+    }
+    Changed { bench, called }
+}
+
+// The same at a place that there is.
+fn set_clock_at(bench: Bench, place: usize, clock: Clock) -> Changed
+    requires { ⌜ place < mostStations ⌝ }
+    ensures { λ r. ⌜ ChangedBy bench (clockRules clock) (clockedBench bench place clock) r ⌝ }
+{
+    let station = bench.at[place];
+    if symbol::good_clock(clock) {
+        let next = with_clock(station, clock);
+        return taken(bench, place, next);
+    }
+    Changed {
+        bench,
+        called: Called::BadClock,
+    }
+}
+
+// A station with another clock.
+fn with_clock(station: Station, clock: Clock) -> Station
+    ensures { λ r. ⌜ r ≡ clocked clock station ⌝ }
+{
+    let stored = station.bytes;
+    Station {
+        clock,
+        bytes: stored,
+        len: station.len,
+    }
+}

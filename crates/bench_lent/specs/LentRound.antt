@@ -1,0 +1,127 @@
+-- A round on a lent row keeps its promise: the row is gathered into a bench, the round is played on the bench, and the bench
+-- is put back.
+use Prim.Native.Nat.{ℕ, suc, _+_, _-_, _≤_}
+use mathlib.Core.Path.{_≡_, refl, ap, ap₂, _∙_}
+use mathlib.Core.Bool.{Bool, true, false, cond, not}
+use mathlib.Core.List.{List, [], _∷_, _++_, map, append-nil}
+use native.Mathlib.Omega.{arith}
+use lib.Dec.{eqb}
+use lib.ListN.{length, take, replicate, length-append, length-map, length-replicate}
+use lib.Seq.{take-at}
+use borrow.Author.Tests.{eqb-true, not-false}
+use Rattle.bench.specs.declared.Station.{Station}
+use Rattle.bench.specs.declared.Fared.{Fared}
+use Rattle.bench.specs.declared.Fared.the-variants.{Idle}
+use Rattle.bench.specs.declared.Verdict.{Verdict}
+use Rattle.bench.specs.Stations.{mostStations, blank}
+use Rattle.bench.specs.Contest.{Round, roundOf, verdictOf, verdictsOf, afterFares}
+use Rattle.bench.specs.Calls.{round, rowSize, allSound, unsoundStation, allEmpty, fewWords, nobodyWaiting, refuse, numberOf, taken, done, after, written, lentAfter}
+use Rattle.bench.specs.Promises.{RoundSaid, RoundPromise, said, played, turnedAway, roundSays}
+use Rattle.bench.specs.RowLaws.{winnerOf, faresAgainst, row-fares}
+use Rattle.bench_row.specs.declared.Bench.{Bench}
+use Rattle.bench_round.specs.declared.playing.Played.{Played}
+use Rattle.bench_row.specs.Benches.{benchOf}
+use Rattle.bench_round.specs.Rounds.{roundNumber, numberOn, PlayedBy}
+use Rattle.bench_lent.specs.Padding.{map-append, map-replicate, round-pad, after-pad}
+use Rattle.bench_lent.specs.Restoring.{padded, putBack, put-first, put-same}
+use Rattle.bench_lent.specs.Lent.{sound-same, empty-same, few-of}
+
+-- idle places past the row are what the verdicts are filled up with
+verdicts-pad : (fares : List Fared) (k : ℕ) → length fares + k ≡ mostStations → verdictsOf (fares ++ replicate k Idle) ≡ verdictsOf fares
+verdicts-pad fares k e =
+    let z : mostStations - length (fares ++ replicate k Idle) ≡ 0 = omega (arith, length-append fares (replicate k Idle), length-replicate k Idle) in
+    let w : k ≡ mostStations - length fares = omega arith in
+    ap (λ (x : ℕ). map verdictOf (fares ++ replicate k Idle) ++ replicate x (verdictOf Idle)) z
+    ∙ append-nil (map verdictOf (fares ++ replicate k Idle))
+    ∙ map-append verdictOf fares (replicate k Idle)
+    ∙ ap (λ (r : List Verdict). map verdictOf fares ++ r) (map-replicate verdictOf Idle k)
+    ∙ ap (λ (x : ℕ). map verdictOf fares ++ replicate x (verdictOf Idle)) w
+
+after-length : (fares : List Fared) (row : List Station) → length (afterFares fares row) ≡ length row
+unfolding afterFares
+after-length [] row = refl
+after-length (f ∷ fares) [] = refl
+after-length (f ∷ fares) (s ∷ row) = ap suc (after-length fares row)
+
+-- where a round is taken, the row is not too long and its stations are sound
+module _ (row : List Station) (lent : List ℕ) where
+  rules : numberOn (benchOf row) lent ≡ numberOf (round lent) row
+  unfolding roundNumber numberOf benchOf
+  rules = go (rowSize row) refl
+    where
+      go : (x : Bool) → rowSize row ≡ x → refuse 38 x (refuse 39 (not (allSound (benchOf row .at))) (refuse 32 (fewWords lent) (refuse 42 (allEmpty (benchOf row .at)) 0)))
+          ≡ refuse 38 x (refuse 39 (not (allSound row)) (refuse 32 (fewWords lent) (refuse 42 (allEmpty row) 0)))
+      go true e = refl
+      go false e = rw (sound-same row (few-of row e), empty-same row (few-of row e))
+
+  passed : numberOf (round lent) row ≡ 0 → (length row ≤ mostStations) × (allSound row ≡ true)
+  unfolding numberOf
+  passed e = go (rowSize row) (unsoundStation row) refl refl e
+    where
+      go : (x y : Bool) → rowSize row ≡ x → unsoundStation row ≡ y → refuse 38 x (refuse 39 y (refuse 32 (fewWords lent) (refuse 42 (nobodyWaiting row) 0))) ≡ 0
+          → (length row ≤ mostStations) × (allSound row ≡ true)
+      go true y p q f = absurd (omega arith)
+      go false true p q f = absurd (omega arith)
+      go false false p q f = (few-of row p, not-false (allSound row) q)
+
+  module _ (few : length row ≤ mostStations) (sound : allSound row ≡ true) where
+    left : ℕ
+    left = mostStations - length row
+
+    fares-length : length (roundOf row .fares) ≡ length row
+    fares-length = ap length (row-fares row sound) ∙ length-map row (faresAgainst (winnerOf row))
+
+    round-same : roundOf (benchOf row .at) ≡ record { words = roundOf row .words; fares = roundOf row .fares ++ replicate left Idle; lineTime = roundOf row .lineTime }
+    unfolding left
+    round-same = ap roundOf (padded row few) ∙ round-pad (mostStations - length row) row
+
+    played-same : played (roundOf (benchOf row .at)) ≡ played (roundOf row)
+    unfolding left
+    played-same =
+        ap played round-same
+        ∙ ap (λ (vs : List Verdict). let s : RoundSaid = record { number = 0; verdicts = vs; words = length (roundOf row .words); lineTime = roundOf row .lineTime } in s)
+        (verdicts-pad (roundOf row .fares) (mostStations - length row) (omega (arith, fares-length)))
+
+    put-round : (b : Bench) → b .at ≡ afterFares (roundOf (benchOf row .at) .fares) (benchOf row .at) → putBack b row ≡ afterFares (roundOf row .fares) row
+    unfolding left
+    put-round b e =
+        let so : b .at ≡ afterFares (roundOf row .fares) row ++ replicate (mostStations - length row) blank =
+        e ∙ ap₂ (λ (r : Round) (l : List Station). afterFares (r .fares) l) round-same (padded row few) ∙ after-pad (mostStations - length row) (roundOf row .fares) row fares-length in
+        put-first b row (afterFares (roundOf row .fares) row) (after-length (roundOf row .fares) row)
+        (ap (take (length row)) so ∙ take-at (afterFares (roundOf row .fares) row) (replicate (mostStations - length row) blank) (length row) (after-length (roundOf row .fares) row))
+
+  -- A round that is played on the bench of a row keeps the promise for the row.
+  pub round-kept : (lent′ : List ℕ) (r : Played) → PlayedBy (benchOf row) lent lent′ r → RoundPromise row (putBack (r .bench) row) lent lent′ (r .answer)
+  unfolding roundSays after taken done lentAfter
+  round-kept lent′ r c = go (eqb (numberOf (round lent) row) 0) refl (c .says ∙ ap says rules) (c .leaves ∙ ap leaves rules) (c .lends ∙ ap lends rules)
+    where
+      now : List Station
+      now = benchOf row .at
+
+      says : ℕ → RoundSaid
+      says n = cond (eqb n 0) (played (roundOf now)) (turnedAway n)
+
+      leaves : ℕ → Bench
+      leaves n = cond (eqb n 0) (record { at = afterFares (roundOf now .fares) now; count = benchOf row .count }) (benchOf row)
+
+      lends : ℕ → List ℕ
+      lends n = cond (eqb n 0) (written (roundOf now .words) lent) lent
+
+      go : (t : Bool) → eqb (numberOf (round lent) row) 0 ≡ t
+          → said (r .answer) ≡ cond t (played (roundOf now)) (turnedAway (numberOf (round lent) row))
+          → r .bench ≡ cond t (record { at = afterFares (roundOf now .fares) now; count = benchOf row .count }) (benchOf row)
+          → lent′ ≡ cond t (written (roundOf now .words) lent) lent
+          → RoundPromise row (putBack (r .bench) row) lent lent′ (r .answer)
+      go true e p q s =
+          let k = passed (eqb-true (numberOf (round lent) row) 0 e) in
+          record {
+            says-it = rw e (p ∙ played-same (k .0) (k .1));
+            leaves-it = rw e (put-round (k .0) (k .1) (r .bench) (ap (λ (b : Bench). b .at) q));
+            lends-it = rw e (s ∙ ap (λ (x : Round). written (x .words) lent) (round-same (k .0) (k .1)));
+          }
+      go false e p q s =
+          record {
+            says-it = rw e p;
+            leaves-it = rw e (ap (λ (b : Bench). putBack b row) q ∙ put-same row);
+            lends-it = rw e s;
+          }

@@ -1,0 +1,4 @@
+pub mod Padding
+pub mod Restoring
+pub mod Lent
+pub mod LentRound

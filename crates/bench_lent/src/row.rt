@@ -1,0 +1,79 @@
+// The calls on a lent row of stations, as document 01 names them. Each gathers the row into a bench, works on the bench by
+// value, and puts it back.
+ghost use mathlib.Core.Path.{_≡_};
+ghost use Rattle.bench.specs.Promises.{LoadPromise, WithdrawPromise, ClockPromise, RoundPromise};
+ghost use Rattle.bench_row.specs.Benches.{benchOf};
+ghost use Rattle.bench_lent.specs.Restoring.{putBack};
+use bench::Called;
+use bench::RoundAnswer;
+use bench::Station;
+use bench_row::Bench;
+use symbol::Clock;
+
+// The bench of a row: its first 32 stations, and how many it has.
+pub fn gathered(row: &[Station]) -> Bench
+    ensures { λ r. ⌜ r ≡ benchOf (now (row .entry)) ⌝ }
+{
+    let mut at = bench_row::blanks();
+    let n = bench_row::kept(row.len());
+    let mut i = 0;
+    while i < n {
+        let station = row[i];
+        at[i] = station;
+        i += 1;
+    }
+    bench_row::bench_of(at, row.len())
+}
+
+// The row with the stations of a bench in its places.
+pub fn put_back(row: &mut [Station], bench: Bench)
+    ensures { λ _. ⌜ now (row .exit) ≡ putBack bench (now (row .entry)) ⌝ }
+{
+    let mut i = 0;
+    while i < row.len() {
+        let station = row[i];
+        let next = bench_row::station_at(bench, i, station);
+        row[i] = next;
+        i += 1;
+    }
+}
+
+// Loads a message into the station at a place, from 0 on. A refusal changes nothing.
+pub fn load(row: &mut [Station], place: usize, message: &[u8]) -> Called
+    ensures { λ r. ⌜ LoadPromise place (now (message .entry)) (now (row .entry)) (now (row .exit)) r ⌝ }
+{
+    let bench = gathered(row);
+    let changed = bench_calls::load_on(bench, place, message);
+    put_back(row, changed.bench);
+    changed.called
+}
+
+// Withdraws the message of the station at a place.
+pub fn withdraw(row: &mut [Station], place: usize) -> Called
+    ensures { λ r. ⌜ WithdrawPromise place (now (row .entry)) (now (row .exit)) r ⌝ }
+{
+    let bench = gathered(row);
+    let changed = bench_calls::withdraw_on(bench, place);
+    put_back(row, changed.bench);
+    changed.called
+}
+
+// Sets the clock of the station at a place.
+pub fn set_clock(row: &mut [Station], place: usize, clock: Clock) -> Called
+    ensures { λ r. ⌜ ClockPromise place clock (now (row .entry)) (now (row .exit)) r ⌝ }
+{
+    let bench = gathered(row);
+    let changed = bench_calls::set_clock_on(bench, place, clock);
+    put_back(row, changed.bench);
+    changed.called
+}
+
+// Plays a round and writes its words into those lent.
+pub fn round(row: &mut [Station], words: &mut [u32]) -> RoundAnswer
+    ensures { λ r. ⌜ RoundPromise (now (row .entry)) (now (row .exit)) (now (words .entry)) (now (words .exit)) r ⌝ }
+{
+    let bench = gathered(row);
+    let played = bench_round::round_on(bench, words);
+    put_back(row, played.bench);
+    played.answer
+}

@@ -1,0 +1,215 @@
+-- A round that passed its tests: what its words, its line time and its verdicts come to, and the stations after it.
+use Prim.Native.Nat.{ℕ, zero, suc, _+_, _-_, _≤_, _<_}
+use mathlib.Core.Path.{_≡_, refl, sym, ap, ap₂, subst, _∙_}
+use mathlib.Core.Bool.{true, false}
+use mathlib.Core.List.{List, [], _∷_, _++_, map, append-assoc, append-nil}
+use native.Mathlib.Omega.{arith}
+use lib.ListN.{length, take, drop, getD, set, replicate, length-append, length-set, List·getD-map}
+use lib.Seq.{sets, length-sets, length-take-le, getD-take, take-at}
+use Rattle.laws.specs.Lent.{sets-then, sets-first}
+use Rattle.frame.specs.Writing.{mostWords}
+use Rattle.bench.specs.declared.Station.{Station}
+use Rattle.bench.specs.declared.Fared.{Fared}
+use Rattle.bench.specs.declared.Fared.the-variants.{Idle}
+use Rattle.bench.specs.declared.Verdict.{Verdict}
+use Rattle.bench.specs.Stations.{mostStations, blank}
+use Rattle.bench.specs.Round.{longest, Course, mostBits, play, faredAt}
+use Rattle.bench.specs.Contest.{entryOf, seatOf, sofsAsked, sumOf, roundOf, contestOf, verdictOf, verdictsOf, afterFare, afterFares}
+use Rattle.bench.specs.Calls.{allSound, written}
+use Rattle.bench.specs.RowLaws.{row-comes}
+use Rattle.bench.specs.Promises.{RoundSaid, played}
+use Rattle.bench_row.specs.Scan.{from, from-same, from-length, filled, fill-more, fill-all, fold-start, fold-more, fold-all, getD-any}
+use Rattle.bench_round.specs.Lanes.{Lanes, lanesOf}
+use Rattle.bench_round.specs.Seats.{LanesOk, faresAt}
+use Rattle.bench_round.specs.Entries.{countOf, frameOf, widthOf, lanesIn, verdictsAt}
+use Rattle.bench_round.specs.Starting.{start-ok, start-seats}
+use Rattle.bench_round.specs.Sending.{courseOf, Sent}
+use Rattle.bench_round.specs.Rounds.{afterVerdict, afterVerdicts}
+
+-- ## The words and the answer
+
+module _ (at : List Station) (n : length at ≡ mostStations) (h : allSound at ≡ true) (sof : ℕ) (q : sof ≡ longest (sofsAsked (map entryOf at)))
+    (old : List ℕ) (room : mostWords ≤ length old) (lost mid : List ℕ) (bits : ℕ)
+    (sent : Sent (lanesIn at) (replicate mostStations 0) lost (set (set old 0 300) 1 sof) mid bits) where
+  course : Course
+  course = play mostBits false 1 (map seatOf (map entryOf at))
+
+  same : courseOf (lanesIn at) (replicate mostStations 0) ≡ course
+  unfolding course
+  same = ap (play mostBits false 1) (start-seats at n h)
+
+  -- the words in front of the closing end
+  front : List ℕ
+  front = 300 ∷ sof ∷ course .widths
+
+  front-length : length front ≡ 2 + bits
+  unfolding front course
+  front-length = omega (arith, sent .counts-them, ap (λ (c : Course). length (c .widths)) same)
+
+  all-words : roundOf at .words ≡ front ++ (300 ∷ [])
+  unfolding roundOf contestOf front course
+  all-words = rw q
+
+  whole : length (front ++ (300 ∷ [])) ≡ 3 + bits
+  whole = omega (arith, length-append front (300 ∷ []), front-length)
+
+  -- the closing end is the last word written
+  closed : set mid (2 + bits) 300 ≡ (front ++ (300 ∷ [])) ++ drop (3 + bits) old
+  unfolding front
+  closed =
+      ap (λ (r : List ℕ). set r (2 + bits) 300) (sent .writes-them ∙ ap (λ (c : Course). sets (set (set old 0 300) 1 sof) 2 (c .widths)) same)
+      ∙ ap (λ (r : List ℕ). set r (2 + bits) 300) (sets-then old 0 (300 ∷ sof ∷ []) (course .widths))
+      ∙ ap (λ (k : ℕ). set (sets old 0 front) k 300) (let z : 2 + bits ≡ 0 + length front = omega (arith, front-length) in z)
+      ∙ sets-then old 0 front (300 ∷ [])
+      ∙ sets-first old (front ++ (300 ∷ [])) (omega (arith, whole, sent .few))
+      ∙ ap (λ (k : ℕ). (front ++ (300 ∷ [])) ++ drop k old) whole
+
+  -- No word is added or lost.
+  pub mid-length : length mid ≡ length old
+  mid-length =
+      ap length (sent .writes-them) ∙ length-sets (set (set old 0 300) 1 sof) 2 (courseOf (lanesIn at) (replicate mostStations 0) .widths)
+      ∙ length-set (set old 0 300) 1 sof ∙ length-set old 0 300
+
+  -- With the closing end behind them they are the round's words ..
+  pub words-are : set mid (2 + bits) 300 ≡ written (roundOf at .words) old
+  words-are = closed ∙ ap (λ (k : ℕ). (front ++ (300 ∷ [])) ++ drop k old) (sym whole) ∙ ap (λ (ws : List ℕ). ws ++ drop (length ws) old) (sym all-words)
+
+  -- .. and the sum of all but that end is its line time ..
+  pub time-is : sumOf (take (2 + bits) (set mid (2 + bits) 300)) ≡ roundOf at .lineTime
+  unfolding roundOf contestOf front course
+  time-is =
+      ap (λ (r : List ℕ). sumOf (take (2 + bits) r)) (closed ∙ append-assoc front (300 ∷ []) (drop (3 + bits) old))
+      ∙ ap sumOf (take-at front (300 ∷ drop (3 + bits) old) (2 + bits) front-length)
+      ∙ ap (λ (s : ℕ). sumOf (300 ∷ s ∷ course .widths)) q
+
+  -- .. which a u32 holds.
+  pub time-bound : sumOf (take (2 + bits) (set mid (2 + bits) 300)) ≤ 14438
+  time-bound = omega (arith, time-is, row-comes at h .bound)
+
+  fares-are : faresAt (map countOf at) lost ≡ roundOf at .fares
+  unfolding roundOf contestOf course
+  fares-are = sent .fares-so ∙ ap (λ (c : Course). map faredAt (c .seats)) same
+
+  -- Each of the 32 places fares somehow.
+  pub fares-length : length (roundOf at .fares) ≡ mostStations
+  unfolding faresAt
+  fares-length = ap length (sym fares-are) ∙ from-length _ 0 mostStations
+
+  verdicts-are : verdictsAt (map countOf at) lost ≡ verdictsOf (roundOf at .fares)
+  verdicts-are =
+      let z : mostStations - length (roundOf at .fares) ≡ 0 = omega (arith, fares-length) in
+      ap (map verdictOf) fares-are ∙ sym (append-nil (map verdictOf (roundOf at .fares)))
+      ∙ ap (λ (k : ℕ). map verdictOf (roundOf at .fares) ++ replicate k (verdictOf Idle)) (sym z)
+
+  -- The answer is the definition's.
+  pub answer-is : (verdicts : List Verdict) → verdicts ≡ verdictsAt (map countOf at) lost → (time : ℕ) → time ≡ sumOf (take (2 + bits) (set mid (2 + bits) 300))
+      → (let r : RoundSaid = record { number = 0; verdicts = verdicts; words = 2 + bits + 1; lineTime = time } in r) ≡ played (roundOf at)
+  answer-is verdicts e time f =
+      let k : 2 + bits + 1 ≡ length (roundOf at .words) = omega (arith, ap length all-words, whole) in
+      rw (e ∙ verdicts-are, k, f ∙ time-is)
+
+-- ## The arrays that stand for the lanes
+
+module _ (at : List Station) (counts : List ℕ) (frames : List (List ℕ)) (shorts longs : List ℕ)
+    (a : counts ≡ map countOf at) (b : frames ≡ map frameOf at) (c : shorts ≡ map (widthOf false) at) (d : longs ≡ map (widthOf true) at) where
+  arrays : lanesOf counts frames shorts longs ≡ lanesIn at
+  arrays = cc
+
+  -- They are the lanes of sound stations ..
+  pub ready : length at ≡ mostStations → allSound at ≡ true → LanesOk (lanesOf counts frames shorts longs)
+  ready n h = subst LanesOk (sym arrays) (start-ok at n h)
+
+  -- .. and what is sent over the arrays is sent over those lanes.
+  pub readied : (z lost old mid : List ℕ) (bits : ℕ) → Sent (lanesOf counts frames shorts longs) z lost old mid bits → Sent (lanesIn at) z lost old mid bits
+  readied z lost old mid bits s = subst (λ (l : Lanes). Sent l z lost old mid bits) arrays s
+
+-- ## The sum of words
+
+sum-one : (w : ℕ) (ws : List ℕ) → sumOf ws + w ≡ sumOf (w ∷ ws)
+unfolding sumOf
+sum-one w ws = omega arith
+
+-- a part of a sum is no more than the sum
+sum-part : (ws : List ℕ) (i : ℕ) → sumOf (drop i ws) ≤ sumOf ws
+unfolding sumOf
+sum-part ws zero = omega arith
+sum-part [] (suc i) = omega arith
+sum-part (w ∷ ws) (suc i) = omega (arith, sum-part ws i)
+
+-- The first n words, summed from the last of them on.
+module _ (ws : List ℕ) (n : ℕ) (h : n ≤ length ws) where
+  -- nothing is summed yet
+  pub sum-start : 0 ≡ sumOf (drop n (take n ws))
+  unfolding sumOf
+  sum-start = fold-start sumOf (λ (x y : ℕ). x + y) sum-one (take n ws) n (omega (arith, length-take-le n ws h))
+
+  module _ (i v : ℕ) (hi : i ≤ n) (e : v ≡ sumOf (drop i (take n ws))) where
+    -- one word more
+    pub sum-more : 0 < i → v + getD ws (i - 1) 0 ≡ sumOf (drop (i - 1) (take n ws))
+    sum-more lo =
+        fold-more sumOf (λ (x y : ℕ). x + y) sum-one (take n ws) i 0 lo (omega (arith, length-take-le n ws h)) v (v + getD ws (i - 1) 0) e
+        (ap (λ (w : ℕ). v + w) (sym (getD-take n ws (i - 1) 0 (omega arith))))
+
+    -- what is summed so far is no more than the whole
+    pub sum-fits : 0 < i → v + getD ws (i - 1) 0 ≤ sumOf (take n ws)
+    sum-fits lo = omega (arith, sum-more lo, sum-part (take n ws) (i - 1))
+
+    -- all words are summed
+    pub sum-all : i ≤ 0 → v ≡ sumOf (take n ws)
+    sum-all z = fold-all sumOf (λ (x y : ℕ). x + y) sum-one (take n ws) i z v e
+
+-- ## The stations afterwards
+
+shift : {A : Type 0} (g : ℕ → A) (i n : ℕ) → from g (suc i) n ≡ from (λ (p : ℕ). g (suc p)) i n
+unfolding from
+shift g i zero = refl
+shift {A} g i (suc n) = ap (λ (r : List A). g (suc i) ∷ r) (shift g (suc i) n)
+
+after-all : (fares : List Fared) (row : List Station) → length fares ≡ length row → from (λ (p : ℕ). afterFare (getD fares p Idle) (getD row p blank)) 0 (length row) ≡ afterFares fares row
+unfolding from afterFares
+after-all [] [] e = refl
+after-all [] (s ∷ row) e = absurd (omega arith)
+after-all (f ∷ fares) [] e = refl
+after-all (f ∷ fares) (s ∷ row) e =
+    ap (λ (r : List Station). afterFare f s ∷ r)
+    (shift (λ (p : ℕ). afterFare (getD (f ∷ fares) p Idle) (getD (s ∷ row) p blank)) 0 (length row) ∙ after-all fares row (omega arith))
+
+-- The stations by their verdicts are the stations by how they fared.
+pub after-is : (at : List Station) (fares : List Fared) → length at ≡ mostStations → length fares ≡ mostStations → afterVerdicts at (verdictsOf fares) ≡ afterFares fares at
+unfolding afterVerdicts
+after-is at fares n m =
+    let z : mostStations - length fares ≡ 0 = omega arith in
+    ap (λ (k : ℕ). from (afterVerdict at (map verdictOf fares ++ replicate k (verdictOf Idle))) 0 mostStations) z
+    ∙ ap (λ (vs : List Verdict). from (afterVerdict at vs) 0 mostStations) (append-nil (map verdictOf fares))
+    ∙ from-same (afterVerdict at (map verdictOf fares)) (λ (p : ℕ). afterFare (getD fares p Idle) (getD at p blank)) 0 mostStations
+    (λ p lo hi. ap (λ (v : Verdict). afterFare (v .fared) (getD at p blank)) (List·getD-map verdictOf fares p Idle))
+    ∙ ap (from (λ (p : ℕ). afterFare (getD fares p Idle) (getD at p blank)) 0) (sym n)
+    ∙ after-all fares at (omega arith)
+
+-- the stations while they are seen to, at place i
+pub record Settling (at : List Station) (verdicts : List Verdict) (first now : List Station) (i : ℕ) : Type 0 where
+  pub inside : i ≤ mostStations
+  pub places : length at ≡ mostStations
+  pub answers : length verdicts ≡ mostStations
+  pub room : length first ≡ mostStations
+  pub so-far : now ≡ filled (afterVerdict at verdicts) first i
+
+module _ {at : List Station} {verdicts : List Verdict} {first now : List Station} {i : ℕ} (so : Settling at verdicts first now i) where
+  -- one station more
+  pub settle-more : i < mostStations → (d : Station) (e : Verdict) (x : Station) → x ≡ afterFare (getD verdicts i e .fared) (getD at i d) → Settling at verdicts first (set now i x) (i + 1)
+  settle-more h d e x p =
+      record {
+        inside = omega arith;
+        places = so .places;
+        answers = so .answers;
+        room = so .room;
+        so-far =
+            ap (λ (r : List Station). set r i x) (so .so-far)
+            ∙ fill-more (afterVerdict at verdicts) first i x x (omega (arith, so .room))
+            (p ∙ ap₂ (λ (v : Verdict) (s : Station). afterFare (v .fared) s) (getD-any verdicts i e (verdictOf Idle) (omega (arith, so .answers))) (getD-any at i d blank (omega (arith, so .places))));
+      }
+
+  -- all of them
+  pub settle-all : mostStations ≤ i → now ≡ afterVerdicts at verdicts
+  unfolding afterVerdicts
+  settle-all h = so .so-far ∙ fill-all (afterVerdict at verdicts) first i mostStations (so .room) h (so .inside)

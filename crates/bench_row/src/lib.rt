@@ -1,0 +1,70 @@
+// A row by value, and what is asked of it as a whole.
+ghost use mathlib.Core.Path.{_≡_};
+ghost use Prim.Native.Nat.{min};
+ghost use lib.ListN.{getD, replicate};
+ghost use Rattle.bench.specs.Stations.{mostStations, blank};
+ghost use Rattle.bench.specs.Contest.{emptied};
+use bench::Station;
+
+mod survey;
+
+pub use survey::Survey;
+pub use survey::bad_size;
+pub use survey::greater;
+pub use survey::survey_all;
+
+// The most stations that a row may have: a row by value has as many places.
+const MOST_STATIONS: usize = 32;
+
+// A row of up to 32 stations, with blank ones past its end, and how many the row has. Where that is more than 32 the
+// rest of the row is not here: no call is taken on such a row.
+pub struct Bench {
+    pub at: [Station; 32],
+    pub count: usize,
+}
+
+// 32 blank stations.
+pub fn blanks() -> [Station; 32]
+    ensures { λ r. ⌜ r ≡ replicate mostStations blank ⌝ }
+{
+    let station = survey::blank();
+    let at: [Station; 32] = [station; 32];
+    at
+}
+
+// How many stations of a row of so many a bench keeps.
+pub fn kept(count: usize) -> usize
+    ensures { λ r. ⌜ r ≡ min count mostStations ⌝ }
+{
+    if count < MOST_STATIONS {
+        count
+    } else {
+        MOST_STATIONS
+    }
+}
+
+// The bench of these stations, for a row of so many.
+pub fn bench_of(at: [Station; 32], count: usize) -> Bench
+    ensures { λ r. ⌜ r ≡ record { at = at; count = count } ⌝ }
+{
+    Bench { at, count }
+}
+
+// The station that the bench has at place i, or else the one that stands there.
+pub fn station_at(bench: Bench, i: usize, station: Station) -> Station
+    ensures { λ r. ⌜ r ≡ getD (bench .at) i station ⌝ }
+{
+    if i < MOST_STATIONS {
+        return bench.at[i];
+    }
+    station
+}
+
+// A station of length 0; every other field stays.
+pub fn empty(station: Station) -> Station
+    ensures { λ r. ⌜ r ≡ emptied station ⌝ }
+{
+    let mut next = station;
+    next.len = 0;
+    next
+}

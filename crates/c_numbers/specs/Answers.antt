@@ -1,0 +1,91 @@
+-- What the exported calls on volts, writing, reading and the desk's text, and the small questions, give: document 01's number
+-- first, and a number for each symbol and each kind of response, since enums do not cross to other languages. Definitions
+-- only.
+use Prim.Native.Nat.{ℕ}
+use mathlib.Core.Bool.{Bool, cond, not}
+use mathlib.Core.List.{List}
+use lib.Dec.{eqb, ltb}
+use Rattle.volts.specs.Tracing as tracing
+use Rattle.symbol.specs.declared.Clock.{Clock}
+use Rattle.symbol.specs.declared.Symbol.{Symbol}
+use Rattle.symbol.specs.declared.Symbol.the-variants.{Noise, Bit0, Bit1, Eod, Sof, Eof, Ifs, Break, Stuck}
+use Rattle.symbol.specs.Clocks.{goodOf}
+use Rattle.frame.specs.declared.Response.{Response}
+use Rattle.frame.specs.declared.Response.the-variants.{Without, Plain, Checked}
+use Rattle.frame.specs.Writing as writing
+use Rattle.frame.specs.Answers.{Told}
+use Rattle.desk_text.specs.Calls as text
+use Rattle.c_numbers.specs.declared.answers.Check.{Check}
+use Rattle.c_numbers.specs.declared.answers.Class.{Class}
+use Rattle.c_numbers.specs.declared.answers.Timed.{Timed}
+use Rattle.c_numbers.specs.declared.answers.Counted.{Counted}
+use Rattle.c_numbers.specs.declared.answers.Read.{Read}
+use Rattle.c_numbers.specs.declared.answers.Desk.{Desk}
+
+-- the number of each symbol
+abbrev pub symbolNumber : Symbol → ℕ
+symbolNumber Noise = 0
+symbolNumber Bit0 = 1
+symbolNumber Bit1 = 2
+symbolNumber Eod = 3
+symbolNumber Sof = 4
+symbolNumber Eof = 5
+symbolNumber Ifs = 6
+symbolNumber Break = 7
+symbolNumber Stuck = 8
+
+-- calls that cannot refuse: the number 0, and the check byte ..
+abbrev pub checkAs : ℕ → Check
+checkAs b = record { number = 0; check = b }
+
+-- .. the symbol's number ..
+abbrev pub classAs : Symbol → Class
+classAs s = record { number = 0; symbol = symbolNumber s }
+
+-- .. whether the clock is good
+abbrev pub timedAs : Bool → Timed
+timedAs g = record { number = 0; good = g }
+
+-- the number of each kind of response
+abbrev pub kindNumber : Response → ℕ
+kindNumber Without = 0
+kindNumber Plain = 1
+kindNumber Checked = 2
+
+-- the kind that a number asks for
+abbrev pub kindOf : ℕ → Response
+kindOf k = cond (eqb k 0) Without (cond (eqb k 1) Plain Checked)
+
+-- what came of a trace: 0 and how many intervals were written, or the number of the refusal and 0
+abbrev pub tracedAs : tracing.Outcome → Counted
+tracedAs (tracing.wrote n) = record { number = 0; count = n }
+tracedAs (tracing.turnedAway k) = record { number = k; count = 0 }
+
+-- Writing. A kind that is none of the three asks for no message that there is: 37, behind 36 as document 01 has them.
+abbrev pub noSuchKind : Clock → writing.Sheet
+noSuchKind c = cond (not (goodOf c)) (writing.turnedAway 36) (writing.turnedAway 37)
+
+-- what writing comes to, a kind that there is not included
+unfoldable pub sheetOf : Clock → List ℕ → ℕ → List ℕ → ℕ → writing.Sheet
+sheetOf c main kind rs lent =
+    cond (ltb 2 kind) (noSuchKind c) (writing.writing c main (kindOf kind) rs lent)
+
+-- the writer's number and count
+abbrev pub countedAs : writing.Count → Counted
+countedAs n = record { number = n .number; count = n .count }
+
+-- what reading tells, the kind of the response by its number
+abbrev pub readAs : Told → Read
+readAs t =
+    record {
+      number = t .number;
+      kind = kindNumber (t .response);
+      next = t .next;
+      opening = t .opening;
+      main = t .mainLength;
+      response = t .responseLength;
+    }
+
+-- what the desk tells: its number, the first bad line, and how many bytes of text were laid
+abbrev pub deskAs : text.Told → Desk
+deskAs t = record { number = t .number; line = t .line; length = t .length }

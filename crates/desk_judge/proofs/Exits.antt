@@ -1,0 +1,116 @@
+-- How the first line and the lines behind it decide the promise of judging: a law for each way out.
+use Prim.Native.Nat.{ℕ, _+_, _-_, _≤_, _<_}
+use mathlib.Core.Path.{_≡_, refl, sym, _∙_}
+use mathlib.Core.Bool.{Bool, true, false, cond}
+use mathlib.Core.List.{List, [], _∷_}
+use mathlib.Core.Logic.{_⊎_, inl, inr}
+use native.Mathlib.Numerals.{add-one}
+use native.Mathlib.Omega.{arith}
+use lib.Dec.{eqb}
+use lib.ListN.{length, take, drop}
+use borrow.Author.Tests.{lt-ltb, le-ltb, eq-eqb, ne-eqb}
+use Rattle.bytes.specs.Bytes.{indexOf, slice}
+use Rattle.laws.specs.Lent.{sets-first}
+use Rattle.laws.specs.Tests.{upTo}
+use Rattle.desk_text.specs.declared.Labels.{Labels}
+use Rattle.desk_text.specs.declared.Judged.{Judged}
+use Rattle.desk_text.specs.declared.Judged.the-variants.{Good, Bad, FewLentWords}
+use Rattle.desk_text.specs.Grammar.{newline}
+use Rattle.desk_text.specs.Input.{Line, shut, unshut, lines, field, ownLine, mostWidths, badFrom, widthsFrom, firstBad, recordingOf}
+use Rattle.desk_text.specs.PieceLaws.{lines-first, lines-none}
+use Rattle.desk_text.specs.Calls.{good, bad, few, verdictBy, judging, judgedTold, verdictTells, laidOn, JudgePromise}
+use Rattle.desk_judge.specs.declared.Own.{Own}
+use Rattle.desk_judge.specs.declared.Own.the-variants.{Of as Two, Not as None}
+use Rattle.desk_judge.specs.declared.Taken.{Taken}
+use Rattle.desk_judge.specs.Found.{ownBy, ownOf, Taking, Behind, judgedBy}
+use Rattle.desk_judge.proofs.Fields.{rest-all, found}
+
+-- ## Behind a good first line
+
+module _ {s entry exit : List ℕ} {r : Taken} (labels : Labels) (t : Taking s entry exit r) where
+  pub behind-good : r .line ≡ 0 → Behind labels s entry exit (Good labels (r .widths))
+  behind-good e = record { answer = rw (eq-eqb (badFrom 2 (lines s)) 0 (sym (t .stop) ∙ e), t .count); laid = t .laid; few = t .few }
+
+  pub behind-bad : (r .line ≡ 0 → ⊥) → Behind labels s entry exit (Bad (r .line))
+  behind-bad n = record { answer = rw (ne-eqb (badFrom 2 (lines s)) 0 (λ e. n (t .stop ∙ e)), t .stop); laid = t .laid; few = t .few }
+
+-- ## The first line
+
+own-good : (l : List ℕ) (labels : Labels) → ownOf l ≡ Two labels
+    → (ownLine (shut l) ≡ true) × (length (field 1 (shut l)) ≡ labels .customer) × (length (field 2 (shut l)) ≡ labels .vehicle)
+unfolding ownOf
+own-good l labels e = go (ownLine (shut l)) refl e
+  where
+    go : (b : Bool) → ownLine (shut l) ≡ b → ownBy b (field 1 (shut l)) (field 2 (shut l)) ≡ Two labels
+        → (ownLine (shut l) ≡ true) × (length (field 1 (shut l)) ≡ labels .customer) × (length (field 2 (shut l)) ≡ labels .vehicle)
+    go true p q = (p, cc, cc)
+    go false p q = let z : _≡_ {A = ℕ} 0 1 = cc in absurd (omega arith)
+
+own-bad : (l : List ℕ) → ownOf l ≡ None → ownLine (shut l) ≡ false
+unfolding ownOf
+own-bad l e = go (ownLine (shut l)) refl e
+  where
+    go : (b : Bool) → ownLine (shut l) ≡ b → ownBy b (field 1 (shut l)) (field 2 (shut l)) ≡ None → ownLine (shut l) ≡ false
+    go true p q = let z : _≡_ {A = ℕ} 0 1 = cc in absurd (omega arith)
+    go false p q = p
+
+-- ## The whole input
+
+pub refuses-61 : (s entry : List ℕ) → length entry < mostWidths → JudgePromise s entry entry FewLentWords
+unfolding judging
+refuses-61 s entry h = record { tells-it = rw (lt-ltb (length entry) mostWidths h); lends-it = rw (lt-ltb (length entry) mostWidths h) }
+
+module _ (s entry : List ℕ) (h : mostWidths ≤ length entry) where
+  -- what the lines come to settles the promise
+  promised : (ls : List Line) → lines s ≡ ls → (exit : List ℕ) (r : Judged) → judgedTold r ≡ verdictTells (verdictBy ls) → exit ≡ laidOn (recordingOf ls) entry → JudgePromise s entry exit r
+  unfolding judging
+  promised ls e exit r p q = record {
+    tells-it = rw (le-ltb (length entry) mostWidths h, e) p;
+    lends-it = rw (le-ltb (length entry) mostWidths h, e) q;
+  }
+
+  -- a first line that is bad
+  refused-first : (ls : List Line) → lines s ≡ ls → firstBad ls ≡ 1 → recordingOf ls ≡ [] → JudgePromise s entry entry (Bad 1)
+  refused-first ls e p q = promised ls e entry (Bad 1) (rw p) (rw q)
+
+  module _ (e : ℕ) (at : e ≡ 0 + indexOf 10 (slice 0 (length s) s)) where
+    pub first-open : e ≡ length s → JudgePromise s entry entry (Bad 1)
+    unfolding ownLine lines
+    first-open q = go (upTo (length s) 0)
+      where
+        empty : (s : List ℕ) → length s ≤ 0 → s ≡ []
+        empty [] h = refl
+        empty (x ∷ xs) h = absurd (omega arith)
+
+        go : (length s ≤ 0) ⊎ (0 < length s) → JudgePromise s entry entry (Bad 1)
+        go (inl z) = refused-first [] (rw (empty s z)) refl refl
+        go (inr z) = refused-first (unshut s ∷ []) (lines-none s z (sym (found newline s e at) ∙ q)) refl refl
+
+    module _ (inside : e ≤ length s) (closed : e ≡ length s → ⊥) where
+      split : lines s ≡ shut (take e s) ∷ lines (drop (e + 1) s)
+      split =
+          let i : e ≡ indexOf newline s = found newline s e at in
+          lines-first s (omega arith) ∙ rw (← i, add-one)
+
+      pub first-bad : {w : Own} → w ≡ ownOf (take e s) → w ≡ None → JudgePromise s entry entry (Bad 1)
+      first-bad a b =
+          let n : ownLine (shut (take e s)) ≡ false = own-bad (take e s) (sym a ∙ b) in
+          refused-first (shut (take e s) ∷ lines (drop (e + 1) s)) split (rw n) (rw n)
+
+      pub first-good : {w : Own} {labels : Labels} {exit : List ℕ} {r : Judged} → w ≡ ownOf (take e s) → w ≡ Two labels
+          → Behind labels (take (length s - (e + 1)) (drop (e + 1) s)) entry exit r → JudgePromise s entry exit r
+      first-good {labels = labels} {exit = exit} {r = r} a b t = go (drop (e + 1) s) split (rw (rest-all s (e + 1)) at t)
+        where
+          g : (ownLine (shut (take e s)) ≡ true) × (length (field 1 (shut (take e s))) ≡ labels .customer) × (length (field 2 (shut (take e s))) ≡ labels .vehicle)
+          g = own-good (take e s) labels (sym a ∙ b)
+
+          by : (c : Bool) (u : List ℕ)
+              → judgedTold (judgedBy c labels (length (widthsFrom 2 (lines u))) (badFrom 2 (lines u)))
+              ≡ verdictTells (cond c (good (labels .customer) (labels .vehicle) (length (widthsFrom 2 (lines u)))) (bad (badFrom 2 (lines u))))
+          by true u = refl
+          by false u = refl
+
+          go : (u : List ℕ) → lines s ≡ shut (take e s) ∷ lines u → Behind labels u entry exit r → JudgePromise s entry exit r
+          go u p d = promised (shut (take e s) ∷ lines u) p exit r
+              (rw (d .answer, g .0, g .1, g .2) (by (eqb (badFrom 2 (lines u)) 0) u))
+              (d .laid ∙ sets-first entry (widthsFrom 2 (lines u)) (omega (arith, d .few)) ∙ rw (g .0))

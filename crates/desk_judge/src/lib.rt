@@ -1,0 +1,154 @@
+// Judging the desk's input: its labels and widths, or the number of its first bad line. What a good line is, and which line
+// is the first bad one, is defined in `desk_text`.
+ghost use mathlib.Core.Path.{_≡_};
+ghost use Prim.Native.Nat.{_≤_};
+ghost use lib.ListN.{length};
+ghost use Rattle.desk_text.specs.Input.{mostWidths};
+ghost use Rattle.desk_text.specs.Calls.{JudgePromise};
+ghost use Rattle.desk_judge.specs.Found.{ivOf, labelsOf, ownOf, Taking, Behind};
+use desk_field::Width;
+use desk_field::is_label;
+use desk_field::same;
+use desk_field::width_in;
+use desk_text::Judged;
+use desk_text::Labels;
+
+// The byte that closes a line, and the byte that parts fields.
+const NEWLINE: u8 = 10;
+
+const TAB: u8 = 9;
+
+// The most widths of an input, each on a line of its own; and the number of the first such line.
+const MOST_WIDTHS: usize = 16384;
+
+const FIRST_WIDTH_LINE: usize = 2;
+
+// The labels of a first line, or none.
+enum Own {
+    Of(Labels),
+    Not,
+}
+
+// How many widths were taken, and the number of the bad line that ended it, or 0.
+struct Taken {
+    widths: usize,
+    line: usize,
+}
+
+// The width of a line `iv`, tab, width, given without its newline.
+fn iv_line(s: &[u8]) -> Width
+    ensures { λ r. ⌜ r ≡ ivOf (now (s .entry)) ⌝ }
+{
+    let m = bytes::scan::find(s, 0, s.len(), TAB);
+    if m == s.len() {
+        return Width::Not;
+    }
+    if !same(&s[..m], b"iv") {
+        return Width::Not;
+    }
+    width_in(&s[m + 1..])
+}
+
+// Two labels with a tab between them.
+fn two_labels(s: &[u8]) -> Own
+    ensures { λ r. ⌜ r ≡ labelsOf (now (s .entry)) ⌝ }
+{
+    let m = bytes::scan::find(s, 0, s.len(), TAB);
+    if m == s.len() {
+        return Own::Not;
+    }
+    if !is_label(&s[..m]) {
+        return Own::Not;
+    }
+    if !is_label(&s[m + 1..]) {
+        return Own::Not;
+    }
+    Own::Of(Labels {
+        customer: m,
+        vehicle: s.len() - (m + 1),
+    })
+}
+
+// The labels of a line `own`, tab, customer, tab, vehicle, given without its newline.
+fn own_line(s: &[u8]) -> Own
+    ensures { λ r. ⌜ r ≡ ownOf (now (s .entry)) ⌝ }
+{
+    let m = bytes::scan::find(s, 0, s.len(), TAB);
+    if m == s.len() {
+        return Own::Not;
+    }
+    if !same(&s[..m], b"own") {
+        return Own::Not;
+    }
+    two_labels(&s[m + 1..])
+}
+
+// The lines behind the first one: each width goes to its word, up to the first bad line.
+fn iv_lines(s: &[u8], lent: &mut [u32]) -> Taken
+    requires { ⌜ mostWidths ≤ length (now lent) ⌝ }
+    ensures { λ r. ⌜ Taking (now (s .entry)) (now (lent .entry)) (now (lent .exit)) r ⌝ }
+{
+    let mut t = s;
+    let mut k = 0;
+    while t.len() > 0 {
+        let e = bytes::scan::find(t, 0, t.len(), NEWLINE);
+        if e == t.len() {
+            return Taken {
+                widths: k,
+                line: FIRST_WIDTH_LINE + k,
+            };
+        }
+        if k == MOST_WIDTHS {
+            return Taken {
+                widths: k,
+                line: FIRST_WIDTH_LINE + k,
+            };
+        }
+        let found = iv_line(&t[..e]);
+        match found {
+            Width::Of(x) => {
+                lent[k] = x;
+            }
+            Width::Not => return Taken {
+                widths: k,
+                line: FIRST_WIDTH_LINE + k,
+            },
+        }
+        k += 1;
+        t = &t[e + 1..];
+    }
+    Taken { widths: k, line: 0 }
+}
+
+// Judges an input. Its widths are laid in the lent words, of which 16,384 are asked for.
+pub fn judge(input: &[u8], lent: &mut [u32]) -> Judged
+    ensures { λ r. ⌜ JudgePromise (now (input .entry)) (now (lent .entry)) (now (lent .exit)) r ⌝ }
+{
+    if lent.len() < MOST_WIDTHS {
+        return Judged::FewLentWords;
+    }
+    let e = bytes::scan::find(input, 0, input.len(), NEWLINE);
+    if e == input.len() {
+        return Judged::Bad { line: 1 };
+    }
+    let own = own_line(&input[..e]);
+    match own {
+        Own::Not => Judged::Bad { line: 1 },
+        Own::Of(labels) => behind_own(&input[e + 1..], labels, lent),
+    }
+}
+
+// What follows a good first line.
+fn behind_own(s: &[u8], labels: Labels, lent: &mut [u32]) -> Judged
+    requires { ⌜ mostWidths ≤ length (now lent) ⌝ }
+    ensures { λ r. ⌜ Behind labels (now (s .entry)) (now (lent .entry)) (now (lent .exit)) r ⌝ }
+{
+    let taken = iv_lines(s, lent);
+    let widths = taken.widths;
+    let line = taken.line;
+    if line == 0 {
+        Judged::Good { labels, widths }
+    } else {
+        Judged::Bad { line }
+    }
+}

@@ -1,0 +1,45 @@
+-- `desk_report::put_answer` meets its contract: what is read is what reading is defined to answer, and its line is printed.
+use Rattle.desk_report.proofs.Answering.{read-prints, answer-room, answer-stepped}
+use mathlib.Core.Path.{refl}
+use borrow.Author.Needs.{needs}
+use Rattle.desk_report.proofs.rows.put_answer.Statement.{statement}
+use Rattle.desk_report.proofs.rows.put_answer.Tie as tie
+
+slice-aggregate-read : tie.Need-slice-aggregate-read
+slice-aggregate-read c = search needs
+
+read-requires : tie.Need-read-requires
+read-requires c κs = search needs
+
+slice-aggregate-put-row : tie.Need-slice-aggregate-put-row
+slice-aggregate-put-row c = search needs
+
+put-row-requires : tie.Need-put-row-requires
+put-row-requires c κs =
+    let a = c .before .before .before .before .before .before .before .before .before .args in
+    let h = c .before .before .before .before .before .before .before .before .before .pre in
+    let q = c .before .before .before .read .ensures in
+    (read-prints (a .customer .now) (a .vehicle .now) (a .widths .now) (a .from) (h .0) refl q .holds, answer-room (a .customer .now) (a .vehicle .now) (a .widths .now) (a .from) (h .0) refl q (h .1))
+
+behind-requires : tie.Need-behind-requires
+behind-requires c κs = search needs
+
+same-length : tie.Need-same-length
+same-length c = search needs
+
+returns : tie.Need-returns
+returns c =
+    let a = c .before .before .before .before .before .before .before .before .before .before .before .before .before .args in
+    answer-stepped (a .customer .now) (a .vehicle .now) (a .widths .now) (a .from) (c .before .before .before .before .before .before .before .before .before .before .before .before .before .pre .0) refl (c .before .before .before .before .before .before .before .read .ensures) (c .before .before .before .put-row .ensures) (c .behind .ensures)
+
+pub put-answer-spec : {M : Type 1} → statement M
+put-answer-spec =
+    tie.close
+    (tie.spec
+    slice-aggregate-read
+    read-requires
+    slice-aggregate-put-row
+    put-row-requires
+    behind-requires
+    same-length
+    returns)

@@ -1,0 +1,48 @@
+-- What printing a whole report comes to, from any position of a recording on.
+use Prim.Native.Nat.{ℕ, _+_, _-_, _≤_}
+use mathlib.Core.Path.{_≡_}
+use mathlib.Core.List.{List}
+use lib.ListN.{length, take, drop}
+use Rattle.frame.specs.Faults.{mostBytes}
+use Rattle.frame.specs.Reading.{Outcome, good, quiet, unfinished, faulty, refused, reading}
+use Rattle.frame.specs.ReadingOn.{answersIn}
+use Rattle.desk_text.specs.declared.Labels.{Labels}
+use Rattle.desk_text.specs.Report.{rowOf, rowsOf}
+use Rattle.desk_text.specs.LabelPlaces.{customerPlace}
+use Rattle.desk_report.specs.declared.rows.Next.{Next}
+use Rattle.desk_report.specs.declared.rows.Next.the-variants.{At, Nowhere}
+use Rattle.desk_report.specs.declared.rows.Step.{Step}
+use Rattle.desk_report.specs.Laying.{Laid}
+
+-- the answer at a position ..
+abbrev pub answerAt : List ℕ → ℕ → Outcome
+answerAt ws p = reading ws p mostBytes
+
+-- .. and where reading goes on behind it
+abbrev pub onwards : Outcome → Next
+onwards (good main response kind opening next) = At next
+onwards (quiet next) = Nowhere
+onwards (unfinished opening) = Nowhere
+onwards (faulty number next) = At next
+onwards (refused number) = Nowhere
+
+-- the lines of the answers from p on
+unfoldable pub rowsFrom : List ℕ → List ℕ → List ℕ → ℕ → List ℕ
+rowsFrom customer vehicle ws p = rowsOf customer vehicle (answersIn (length ws + 1 - p) ws mostBytes p)
+
+-- one line is laid, and its end and what follows are answered
+pub record Stepped (customer vehicle ws : List ℕ) (p at : ℕ) (entry exit : List ℕ) (r : Step) : Type 0 where
+  pub row : Laid at (rowOf customer vehicle (answerAt ws p)) entry exit (r .end)
+  pub follows : r .next ≡ onwards (answerAt ws p)
+
+-- the customer's label, by the labels' lengths in an input
+abbrev pub customerIn : List ℕ → Labels → List ℕ
+customerIn s l = take (l .customer) (drop customerPlace s)
+
+-- the vehicle's stands behind the customer's and a tab
+abbrev pub vehicleIn : List ℕ → Labels → List ℕ
+vehicleIn s l = take (l .vehicle) (drop (customerPlace + l .customer + 1) s)
+
+-- the labels end within the input
+abbrev pub Within : List ℕ → Labels → Type 0
+Within s l = customerPlace + l .customer + 1 + l .vehicle ≤ length s

@@ -1,0 +1,136 @@
+-- Bytes as bits and back: nothing is lost either way.
+use Prim.Native.Nat.{ℕ, suc, _-_, _*_, _/_, _%_, _≤_, _<_}
+use mathlib.Core.Path.{_≡_, refl, sym, ap, ap₂, _∙_}
+use mathlib.Core.Bool.{Bool, true, false}
+use mathlib.Core.List.{List, [], _∷_, _++_}
+use native.Mathlib.Omega.{arith}
+use lib.Dec.{eqb, eqb→eq}
+use lib.ListN.{length, getD, take}
+use lib.Seq.{take-suc, take-length}
+use borrow.Author.Tests.{eqb-true, eq-eqb}
+use Rattle.laws.specs.Each.{each}
+use Rattle.checkbyte.specs.Register.{checkOf, withCheck}
+use Rattle.checkbyte.specs.Residue.{check-lt}
+use Rattle.checkbyte.specs.Differ.{Bytes}
+use Rattle.frame.specs.Bits.{value, byte, bytes, odd, bitsOfByte, bitsOf}
+use Rattle.frame.specs.Faults.{checksOut}
+use Rattle.frame.specs.BitLaws.{value-small, checks-more}
+
+-- ## Bytes to bits to bytes
+
+sameByte : ℕ → Bool
+sameByte n = eqb (byte (odd (n / 128)) (odd (n / 64)) (odd (n / 32)) (odd (n / 16)) (odd (n / 8)) (odd (n / 4)) (odd (n / 2)) (odd n)) n
+
+-- computed for each of the 256
+byte-back : (n : ℕ) → n < 256 → byte (odd (n / 128)) (odd (n / 64)) (odd (n / 32)) (odd (n / 16)) (odd (n / 8)) (odd (n / 4)) (odd (n / 2)) (odd n) ≡ n
+unfolding sameByte
+byte-back n h = eqb→eq _ n (each 256 sameByte tt n h)
+
+-- The bits of bytes make the same bytes again.
+pub bytes-back : (ns : List ℕ) → Bytes ns → bytes (bitsOf ns) ≡ ns
+unfolding bytes bitsOf
+bytes-back [] h = refl
+bytes-back (n ∷ ns) h = rw (byte-back n (h .0), bytes-back ns (h .1))
+
+-- Each byte has eight bits.
+pub bits-length : (ns : List ℕ) → length (bitsOf ns) ≡ 8 * length ns
+unfolding bitsOf
+bits-length [] = refl
+bits-length (n ∷ ns) = omega (arith, bits-length ns)
+
+-- ## Bits to bytes to bits
+
+value-back : (n : ℕ) (b : Bool) → n % 2 ≡ value b → odd n ≡ b
+value-back n true e = rw e
+value-back n false e = rw e
+
+eight-back : (a b c d e f g h : Bool) → bitsOfByte (byte a b c d e f g h) ≡ a ∷ b ∷ c ∷ d ∷ e ∷ f ∷ g ∷ h ∷ []
+eight-back a b c d e f g h =
+    let n : ℕ = byte a b c d e f g h in
+    let la = value-small a in
+    let lb = value-small b in
+    let lc = value-small c in
+    let ld = value-small d in
+    let le = value-small e in
+    let lf = value-small f in
+    let lg = value-small g in
+    let lh = value-small h in
+    rw (
+      value-back (n / 128) a (omega arith),
+      value-back (n / 64) b (omega arith),
+      value-back (n / 32) c (omega arith),
+      value-back (n / 16) d (omega arith),
+      value-back (n / 8) e (omega arith),
+      value-back (n / 4) f (omega arith),
+      value-back (n / 2) g (omega arith),
+      value-back n h (omega arith),
+    )
+
+-- Bits that make whole bytes are the bits of those bytes.
+pub bits-back : (bits : List Bool) → length bits % 8 ≡ 0 → bitsOf (bytes bits) ≡ bits
+unfolding bytes bitsOf
+bits-back [] w = refl
+bits-back (a ∷ []) w = absurd (omega arith)
+bits-back (a ∷ b ∷ []) w = absurd (omega arith)
+bits-back (a ∷ b ∷ c ∷ []) w = absurd (omega arith)
+bits-back (a ∷ b ∷ c ∷ d ∷ []) w = absurd (omega arith)
+bits-back (a ∷ b ∷ c ∷ d ∷ e ∷ []) w = absurd (omega arith)
+bits-back (a ∷ b ∷ c ∷ d ∷ e ∷ f ∷ []) w = absurd (omega arith)
+bits-back (a ∷ b ∷ c ∷ d ∷ e ∷ f ∷ g ∷ []) w = absurd (omega arith)
+bits-back (a ∷ b ∷ c ∷ d ∷ e ∷ f ∷ g ∷ h ∷ rest) w =
+    ap₂ (λ (x y : List Bool). x ++ y) (eight-back a b c d e f g h) (bits-back rest (omega arith))
+
+-- Bits make no more bytes than there are eights of them, and every number that they make is a byte.
+pub bytes-few : (bits : List Bool) → 8 * length (bytes bits) ≤ length bits
+unfolding bytes
+bytes-few [] = omega arith
+bytes-few (a ∷ []) = omega arith
+bytes-few (a ∷ b ∷ []) = omega arith
+bytes-few (a ∷ b ∷ c ∷ []) = omega arith
+bytes-few (a ∷ b ∷ c ∷ d ∷ []) = omega arith
+bytes-few (a ∷ b ∷ c ∷ d ∷ e ∷ []) = omega arith
+bytes-few (a ∷ b ∷ c ∷ d ∷ e ∷ f ∷ []) = omega arith
+bytes-few (a ∷ b ∷ c ∷ d ∷ e ∷ f ∷ g ∷ []) = omega arith
+bytes-few (a ∷ b ∷ c ∷ d ∷ e ∷ f ∷ g ∷ h ∷ rest) = omega (arith, bytes-few rest)
+
+-- Every number that bits make is a byte.
+pub bytes-made : (bits : List Bool) → Bytes (bytes bits)
+unfolding bytes
+bytes-made [] = tt
+bytes-made (a ∷ []) = tt
+bytes-made (a ∷ b ∷ []) = tt
+bytes-made (a ∷ b ∷ c ∷ []) = tt
+bytes-made (a ∷ b ∷ c ∷ d ∷ []) = tt
+bytes-made (a ∷ b ∷ c ∷ d ∷ e ∷ []) = tt
+bytes-made (a ∷ b ∷ c ∷ d ∷ e ∷ f ∷ []) = tt
+bytes-made (a ∷ b ∷ c ∷ d ∷ e ∷ f ∷ g ∷ []) = tt
+bytes-made (a ∷ b ∷ c ∷ d ∷ e ∷ f ∷ g ∷ h ∷ rest) = (small, bytes-made rest)
+  where
+    small : byte a b c d e f g h < 256
+    small = omega (arith, value-small a, value-small b, value-small c, value-small d, value-small e, value-small f, value-small g, value-small h)
+
+-- ## Check bytes
+
+-- the bytes without the last one, which is their check byte
+abbrev pub withoutCheck : List ℕ → List ℕ
+withoutCheck bs = take (length bs - 1) bs
+
+-- A check byte that is put behind bytes is right.
+pub with-checks : (bs : List ℕ) → checksOut (withCheck bs) ≡ true
+with-checks bs = checks-more bs (checkOf bs) ∙ eq-eqb (checkOf bs) (checkOf bs) refl
+
+-- Bytes with their check byte are bytes.
+pub with-bytes : (bs : List ℕ) → Bytes bs → Bytes (withCheck bs)
+with-bytes bs h = behind bs (checkOf bs) (check-lt bs) h
+  where
+    behind : (ns : List ℕ) (c : ℕ) → c < 256 → Bytes ns → Bytes (ns ++ (c ∷ []))
+    behind [] c k h = (k, tt)
+    behind (n ∷ ns) c k h = (h .0, behind ns c k (h .1))
+
+-- Bytes that end with their check byte are those before it with their check byte.
+pub check-back : (bs : List ℕ) → 1 ≤ length bs → checksOut bs ≡ true → withCheck (withoutCheck bs) ≡ bs
+unfolding checksOut
+check-back bs h e =
+    let n : suc (length bs - 1) ≡ length bs = omega arith in
+    let last : getD bs (length bs - 1) 0 ≡ checkOf (withoutCheck bs) = eqb-true (getD bs (length bs - 1) 0) (checkOf (withoutCheck bs)) e in
+    ap (λ (x : ℕ). withoutCheck bs ++ (x ∷ [])) (sym last) ∙ sym (take-suc bs (length bs - 1) 0 (omega arith)) ∙ ap (λ (x : ℕ). take x bs) n ∙ take-length bs

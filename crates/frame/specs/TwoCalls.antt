@@ -1,0 +1,167 @@
+-- Demand 2 as a caller sees it: the two calls, one after the other, on lent memory. Everything here is said of the calls'
+-- promises, so it holds of whatever meets them.
+use Prim.Native.Nat.{ℕ, _+_, _-_, _≤_, _<_}
+use mathlib.Core.Path.{_≡_, refl, sym, ap, _∙_}
+use mathlib.Core.Bool.{Bool, true, false}
+use mathlib.Core.List.{List, [], _++_, append-assoc}
+use native.Mathlib.Omega.{arith}
+use lib.Dec.{ltb}
+use lib.ListN.{length, take, drop}
+use lib.Seq.{take-append-le, take-append-seam, drop-append-seam}
+use Rattle.checkbyte.specs.Register.{withCheck}
+use Rattle.checkbyte.specs.Differ.{Bytes}
+use Rattle.symbol.specs.declared.Clock.{Clock}
+use Rattle.symbol.specs.Clocks.{goodOf, nominalClock}
+use Rattle.units.specs.declared.Place.{Place}
+use Rattle.frame.specs.declared.Lengths.{Lengths}
+use Rattle.frame.specs.declared.Response.{Response}
+use Rattle.frame.specs.declared.Response.the-variants.{Without, Plain, Checked}
+use Rattle.frame.specs.declared.Reading.{Reading}
+use Rattle.frame.specs.declared.Reading.the-variants.{Frame}
+use Rattle.frame.specs.declared.Writing.{Writing}
+use Rattle.frame.specs.declared.Writing.the-variants.{Words}
+use Rattle.frame.specs.Standing.{stands}
+use Rattle.frame.specs.Faults.{mostBytes, mainBytes, responseBytes}
+use Rattle.frame.specs.Reading.{Outcome, good, reading}
+use Rattle.frame.specs.Answers.{told, tells, lentAfter, ReadPromise}
+use Rattle.frame.specs.Writing.{Sheet, words, writing, mostWords, responseSent, frameWords, badMessage, counted, counts, wordsAfter, WritePromise}
+use Rattle.frame.specs.ByteLaws.{withoutCheck}
+use Rattle.frame.specs.Decided.{Decision, isUnfinished, isGood, isFaulty, decision}
+use Rattle.frame.specs.Outcomes.{Comes, isPast, isShort, isQuiet, isOpened, comes}
+use Rattle.frame.specs.WriteSettled.{counted-once}
+use Rattle.frame.specs.WrittenBack.{reads-written}
+use Rattle.frame.specs.Nominal.{nominalIntervals, responseBare}
+use Rattle.frame.specs.Again.{WrittenAgain, written-again, writes-again}
+
+-- ## What is written is read back
+
+-- what a call that wrote something shows of its message and clock
+record Wrote (c : Clock) (main : List ℕ) (kind : Response) (rs : List ℕ) (lent : ℕ) : Type 0 where
+  good-clock : goodOf c ≡ true
+  admitted : badMessage main kind rs ≡ false
+  sheet : writing c main kind rs lent ≡ words (frameWords c main kind rs)
+
+wrote : (c : Clock) (main : List ℕ) (kind : Response) (rs : List ℕ) (lent n : ℕ)
+    → counted (Words n) ≡ counts (writing c main kind rs lent) → Wrote c main kind rs lent
+unfolding writing
+wrote c main kind rs lent n e = go (goodOf c) (badMessage main kind rs) (ltb lent mostWords) refl refl refl
+  where
+    go : (g b l : Bool) → goodOf c ≡ g → badMessage main kind rs ≡ b → ltb lent mostWords ≡ l → Wrote c main kind rs lent
+    go false b l p q r = let z : _≡_ {A = ℕ} 0 36 = ap (λ x. x .number) (rw p at e) in absurd (omega arith)
+    go true true l p q r = let z : _≡_ {A = ℕ} 0 37 = ap (λ x. x .number) (rw (p, q) at e) in absurd (omega arith)
+    go true false true p q r = let z : _≡_ {A = ℕ} 0 32 = ap (λ x. x .number) (rw (p, q, r) at e) in absurd (omega arith)
+    go true false false p q r = record { good-clock = p; admitted = q; sheet = rw (p, q, r) }
+
+-- A message is written into lent words, and the lent words, whatever stands behind the frame in them, are read from the
+-- start: the answer is a frame with the message's own lengths, kind and places, and its bytes stand first in the lent bytes.
+pub write-then-read : (c : Clock) (main : List ℕ) (kind : Response) (rs : List ℕ) (entry exit : List ℕ) (n : ℕ)
+    → WritePromise c main kind rs entry exit (Words n) → Bytes main → Bytes rs
+    → (lent left : List ℕ) (answer : Reading) → ReadPromise exit 0 lent left answer → mostBytes ≤ length lent
+    → (told answer ≡ tells (good (withCheck main) (responseSent kind rs) kind 0 (n - 1)))
+    × (left ≡ (withCheck main ++ responseSent kind rs) ++ drop (length (withCheck main ++ responseSent kind rs)) lent)
+write-then-read c main kind rs entry exit n w mb rb lent left answer r enough =
+    (r .tells-it ∙ ap tells is, r .lends-it ∙ ap (λ (x : Outcome). lentAfter x lent) is)
+  where
+    facts : Wrote c main kind rs (length entry)
+    facts = wrote c main kind rs (length entry) n (w .counts-it)
+
+    count : n ≡ length (frameWords c main kind rs)
+    count = ap (λ x. x .count) (w .counts-it ∙ ap counts (facts .sheet))
+
+    line : exit ≡ frameWords c main kind rs ++ drop (length (frameWords c main kind rs)) entry
+    line = w .lends-it ∙ ap (λ (s : Sheet). wordsAfter s entry) (facts .sheet)
+
+    is : reading exit 0 (length lent) ≡ good (withCheck main) (responseSent kind rs) kind 0 (n - 1)
+    is = rw (line, count) (reads-written c [] (drop (length (frameWords c main kind rs)) entry) main kind rs (length lent) (facts .good-clock) (facts .admitted) mb rb refl enough
+        ∙ ap (good (withCheck main) (responseSent kind rs) kind 0) (omega arith))
+
+-- ## What is read is written again
+
+-- what an answer that is a frame shows of the reading behind it
+record Read (ws : List ℕ) (p lent : ℕ) (lengths : Lengths) (kind : Response) (o k : ℕ) : Type 0 where
+  main : List ℕ
+  response : List ℕ
+  is-good : reading ws p lent ≡ good main response kind o k
+  main-long : lengths .main ≡ length main
+  response-long : lengths .response ≡ length response
+
+zero-not : {A : Type 0} {n : ℕ} → 0 ≡ n → 0 < n → A
+zero-not e h = absurd (omega arith)
+
+framed : (ws : List ℕ) (p lent : ℕ) (lengths : Lengths) (kind : Response) (o k : Place)
+    → told (Frame lengths kind o k) ≡ tells (reading ws p lent) → Read ws p lent lengths kind (o .0) (k .0)
+framed ws p lent lengths kind o k e = go (reading ws p lent) (comes ws p lent) refl e
+  where
+    by : (x : Outcome) (q : ℕ) → Decision ws q x → reading ws p lent ≡ x → told (Frame lengths kind o k) ≡ tells x → Read ws p lent lengths kind (o .0) (k .0)
+    by x q (isUnfinished u) f d = zero-not (ap (λ t. t .number) d) (omega arith)
+    by x q (isGood {k = j} u v w) f d =
+        record {
+          main = mainBytes (stands ws q j);
+          response = responseBytes (stands ws q j);
+          is-good = f ∙ sym (rw (ap (λ t. t .response) d, ap (λ t. t .opening) d, ap (λ t. t .next) d));
+          main-long = ap (λ t. t .mainLength) d;
+          response-long = ap (λ t. t .responseLength) d;
+        }
+    by x q (isFaulty {k = j} u v) f d = zero-not (ap (λ t. t .number) d) v
+
+    go : (x : Outcome) → Comes ws p lent x → reading ws p lent ≡ x → told (Frame lengths kind o k) ≡ tells x → Read ws p lent lengths kind (o .0) (k .0)
+    go x (isPast h) f d = zero-not (ap (λ t. t .number) d) (omega arith)
+    go x (isShort h l) f d = zero-not (ap (λ t. t .number) d) (omega arith)
+    go x (isQuiet h l) f d = zero-not (ap (λ t. t .number) d) (omega arith)
+    go x (isOpened {o = q} h l op) f d = by x q (decision ws q) f d
+
+-- a frame's parts out of the lent bytes in which it was laid, without their check bytes
+abbrev pub mainTaken : Lengths → List ℕ → List ℕ
+mainTaken lengths lent = take (lengths .main - 1) lent
+
+-- the response, which stands behind the main part
+abbrev pub responseTaken : Response → Lengths → List ℕ → List ℕ
+responseTaken Without lengths lent = []
+responseTaken Plain lengths lent = take (lengths .response) (drop (lengths .main) lent)
+responseTaken Checked lengths lent = take (lengths .response - 1) (drop (lengths .main) lent)
+
+module _ (lengths : Lengths) (main response rest : List ℕ) (m : lengths .main ≡ length main) (r : lengths .response ≡ length response) where
+  main-taken : mainTaken lengths ((main ++ response) ++ rest) ≡ withoutCheck main
+  main-taken = rw (m, append-assoc main response rest) (take-append-le (length main - 1) main (response ++ rest) (omega arith))
+
+  behind-main : drop (lengths .main) ((main ++ response) ++ rest) ≡ response ++ rest
+  behind-main = rw (m, append-assoc main response rest) (drop-append-seam main (response ++ rest))
+
+  response-taken : (kind : Response) → responseTaken kind lengths ((main ++ response) ++ rest) ≡ responseBare kind response
+  response-taken Without = refl
+  response-taken Plain = rw (behind-main, r) (take-append-seam response rest)
+  response-taken Checked = rw (behind-main, r) (take-append-le (length response - 1) response rest (omega arith))
+
+-- A frame is read into lent bytes, and its parts, taken from there without their check bytes, are written at the nominal
+-- clock: the words are the recording's own intervals from the opening to the closing end, at nominal widths.
+pub read-then-write : (ws : List ℕ) (p : ℕ) (lent left : List ℕ) (lengths : Lengths) (kind : Response) (o k : Place)
+    → ReadPromise ws p lent left (Frame lengths kind o k)
+    → (entry exit : List ℕ) (answer : Writing)
+    → WritePromise nominalClock (mainTaken lengths left) kind (responseTaken kind lengths left) entry exit answer → mostWords ≤ length entry
+    → (answer ≡ Words (k .0 - o .0 + 1))
+    × (exit ≡ nominalIntervals ws (o .0) (k .0) ++ drop (k .0 - o .0 + 1) entry)
+read-then-write ws p lent left lengths kind o k q entry exit answer w enough = (
+  counted-once answer (Words (k .0 - o .0 + 1)) (w .counts-it ∙ ap counts sheet ∙ ap (λ (n : ℕ). counted (Words n)) many),
+  w .lends-it ∙ ap (λ (s : Sheet). wordsAfter s entry) sheet ∙ ap (λ (n : ℕ). nominalIntervals ws (o .0) (k .0) ++ drop n entry) many,
+)
+  where
+    f : Read ws p (length lent) lengths kind (o .0) (k .0)
+    f = framed ws p (length lent) lengths kind o k (q .tells-it)
+
+    laid : left ≡ (f .main ++ f .response) ++ drop (length (f .main ++ f .response)) lent
+    laid = q .lends-it ∙ ap (λ (x : Outcome). lentAfter x lent) (f .is-good)
+
+    again : WrittenAgain ws (f .main) (f .response) kind (o .0) (k .0)
+    again = written-again ws p (length lent) (f .main) (f .response) kind (o .0) (k .0) (f .is-good)
+
+    many : length (nominalIntervals ws (o .0) (k .0)) ≡ k .0 - o .0 + 1
+    many = sym (ap length (again .same-words)) ∙ again .as-many
+
+    sheet : writing nominalClock (mainTaken lengths left) kind (responseTaken kind lengths left) (length entry) ≡ words (nominalIntervals ws (o .0) (k .0))
+    sheet =
+        ap (λ (l : List ℕ). writing nominalClock (mainTaken lengths l) kind (responseTaken kind lengths l) (length entry)) laid
+        ∙ ap (λ (x : List ℕ). writing nominalClock x kind (responseTaken kind lengths ((f .main ++ f .response) ++ drop (length (f .main ++ f .response)) lent)) (length entry))
+        (main-taken lengths (f .main) (f .response) (drop (length (f .main ++ f .response)) lent) (f .main-long) (f .response-long))
+        ∙ ap (λ (x : List ℕ). writing nominalClock (withoutCheck (f .main)) kind x (length entry))
+        (response-taken lengths (f .main) (f .response) (drop (length (f .main ++ f .response)) lent) (f .main-long) (f .response-long) kind)
+        ∙ writes-again ws p (length lent) (f .main) (f .response) kind (o .0) (k .0) (length entry) (f .is-good) enough

@@ -1,0 +1,91 @@
+-- What a wave puts on the line is found there: the places of a recording carry the symbols that are meant.
+use Prim.Native.Nat.{ℕ, suc, _+_, _%_}
+use mathlib.Core.Path.{_≡_, refl, ap, _∙_}
+use mathlib.Core.Bool.{Bool, true, false, not}
+use mathlib.Core.List.{List, [], _∷_, _++_}
+use native.Mathlib.Omega.{arith}
+use native.Mathlib.Nat.{add-zero}
+use lib.ListN.{length, getD, length-append}
+use lib.Seq.{getD-append-seam, append-snoc}
+use borrow.Author.Tests.{eqb-true, eqb-false, eq-eqb, ne-eqb}
+use Rattle.symbol.specs.declared.Symbol.{Symbol}
+use Rattle.symbol.specs.Classes.{ends}
+use Rattle.symbol.specs.ClassLaws.{class-only, end-is}
+use Rattle.frame.specs.Line.{activeAt, symbolAt, endAt}
+use Rattle.frame.specs.Waves.{Wave, still, pulse}
+
+-- ## Levels
+
+-- The level turns from place to place.
+pub level-turns : (i : ℕ) → activeAt (i + 1) ≡ not (activeAt i)
+level-turns i = go (activeAt i) refl
+  where
+    go : (b : Bool) → activeAt i ≡ b → activeAt (i + 1) ≡ not b
+    go true e = ne-eqb ((i + 1) % 2) 1 (λ h. omega (arith, eqb-true (i % 2) 1 e))
+    go false e =
+        let odd : ¬ (i % 2 ≡ 1) = eqb-false (i % 2) 1 e in
+        eq-eqb ((i + 1) % 2) 1 (omega arith)
+
+-- the level behind a row of intervals
+abbrev pub turned : {A : Type 0} → Bool → List A → Bool
+turned active [] = active
+turned active (x ∷ xs) = turned (not active) xs
+
+-- A wave and a wave behind it are a wave.
+pub wave-append : {active : Bool} {a b : List Symbol} {ws vs : List ℕ} → Wave active a ws → Wave (turned active a) b vs → Wave active (a ++ b) (ws ++ vs)
+wave-append still v = v
+wave-append (pulse h w) v = pulse h (wave-append w v)
+
+-- A wave has a width for each symbol.
+pub wave-length : {active : Bool} {symbols : List Symbol} {ws : List ℕ} → Wave active symbols ws → length ws ≡ length symbols
+wave-length still = refl
+wave-length (pulse h w) = ap suc (wave-length w)
+
+-- ## Places
+
+-- the places from i on hold these widths
+abbrev pub Stand : List ℕ → ℕ → List ℕ → Type 0
+Stand ws i [] = Unit {0}
+Stand ws i (v ∷ vs) = (getD ws i 0 ≡ v) × Stand ws (i + 1) vs
+
+-- the places from i on carry these symbols
+abbrev pub Carry : List ℕ → ℕ → List Symbol → Type 0
+Carry ws i [] = Unit {0}
+Carry ws i (s ∷ symbols) = (symbolAt ws i ≡ s) × Carry ws (i + 1) symbols
+
+-- Words that stand behind others stand from their number on.
+pub stands-behind : (before vs after : List ℕ) → Stand (before ++ (vs ++ after)) (length before) vs
+stands-behind before [] after = tt
+stands-behind before (v ∷ vs) after =
+    let n : length (before ++ (v ∷ [])) ≡ length before + 1 = length-append before (v ∷ []) in (
+      getD-append-seam before v (vs ++ after) 0,
+      rw (append-snoc before v (vs ++ after), n) at (stands-behind (before ++ (v ∷ [])) vs after),
+    )
+
+-- Places that hold a wave carry its symbols.
+pub wave-carries : (ws : List ℕ) (i : ℕ) {active : Bool} {symbols : List Symbol} {vs : List ℕ} → Wave active symbols vs
+    → activeAt i ≡ active → Stand ws i vs → Carry ws i symbols
+unfolding symbolAt
+wave-carries ws i still e h = tt
+wave-carries ws i (pulse {active} {s} {w} k v) e h =
+    (rw (e, h .0) (class-only active s w k), wave-carries ws (i + 1) v (level-turns i ∙ ap not e) (h .1))
+
+-- Symbols and symbols behind them, carried by the places behind.
+pub carry-append : (ws : List ℕ) (i : ℕ) (a b : List Symbol) → Carry ws i a → Carry ws (i + length a) b → Carry ws i (a ++ b)
+carry-append ws i [] b c d = rw (add-zero i) at d
+carry-append ws i (s ∷ a) b c d =
+    let n : i + suc (length a) ≡ i + 1 + length a = omega arith in
+    (c .0, carry-append ws (i + 1) a b (c .1) (rw n at d))
+
+-- Widths and widths behind them, held by the places behind.
+pub stand-append : (ws : List ℕ) (i : ℕ) (a b : List ℕ) → Stand ws i (a ++ b) → Stand ws i a × Stand ws (i + length a) b
+stand-append ws i [] b h = (tt, rw (add-zero i) h)
+stand-append ws i (v ∷ a) b h =
+    let r = stand-append ws (i + 1) a b (h .1) in
+    let n : i + suc (length a) ≡ i + 1 + length a = omega arith in
+    ((h .0, r .0), rw n (r .1))
+
+-- An interval is an end where its symbol is one, and where its place is even and its width 240 or more.
+pub end-symbol : (ws : List ℕ) (k : ℕ) → endAt ws k ≡ ends (symbolAt ws k)
+unfolding endAt symbolAt
+end-symbol ws k = end-is (activeAt k) (getD ws k 0)

@@ -1,0 +1,98 @@
+-- Writing a frame: document 01, "Writing and the bench", first paragraph, and refusals 36, 37, 32.
+use Prim.Native.Nat.{ℕ, _+_}
+use mathlib.Core.Path.{_≡_}
+use mathlib.Core.Bool.{Bool, true, false, cond, not, _||_}
+use mathlib.Core.List.{List, [], _∷_, _++_}
+use lib.Dec.{eqb, ltb}
+use lib.ListN.{length, drop}
+use Rattle.symbol.specs.declared.Clock.{Clock}
+use Rattle.symbol.specs.Clocks.{goodOf}
+use Rattle.symbol.specs.Sending.{bitWidth, endWidth}
+use Rattle.checkbyte.specs.Register.{withCheck}
+use Rattle.frame.specs.declared.Response.{Response}
+use Rattle.frame.specs.declared.Response.the-variants.{Without, Plain, Checked}
+use Rattle.frame.specs.declared.Writing.{Writing}
+use Rattle.frame.specs.declared.Writing.the-variants.{Words, BadClock, BadMessage, FewLentWords}
+use Rattle.frame.specs.Bits.{bitsOf}
+use Rattle.frame.specs.Faults.{mostBytes}
+
+-- "A frame takes at most 101 words"
+abbrev pub mostWords : ℕ
+mostWords = 101
+
+-- the widths of bits, from a level on: the level turns at each
+unfoldable pub bitWidths : Clock → Bool → List Bool → List ℕ
+bitWidths c active [] = []
+bitWidths c active (b ∷ bits) = bitWidth c active b .0 ∷ bitWidths c (not active) bits
+
+-- bytes on the line: "the high bit first, starting passive"
+abbrev pub byteWidths : Clock → List ℕ → List ℕ
+byteWidths c bs = bitWidths c false (bitsOf bs)
+
+-- the bytes of a response as they go out, "response bytes count only where a response is asked for"
+abbrev pub responseSent : Response → List ℕ → List ℕ
+responseSent Without rs = []
+responseSent Plain rs = rs
+responseSent Checked rs = withCheck rs
+
+-- The EOD, at the SOF's width, and "a normalization bit, short for a plain response, long for a checked one", and the bytes.
+abbrev pub responseWidths : Clock → Response → List ℕ → List ℕ
+responseWidths c Without rs = []
+responseWidths c Plain rs = c .sof .0 ∷ bitWidth c true true .0 ∷ byteWidths c rs
+responseWidths c Checked rs = c .sof .0 ∷ bitWidth c true false .0 ∷ byteWidths c (withCheck rs)
+
+-- The words of a frame: the opening, the SOF, the main part with its check byte, the response, the closing end.
+unfoldable pub frameWords : Clock → List ℕ → Response → List ℕ → List ℕ
+frameWords c main kind rs =
+    endWidth .0 ∷ c .sof .0 ∷ (byteWidths c (withCheck main) ++ (responseWidths c kind rs ++ (endWidth .0 ∷ [])))
+
+-- a response is asked for, and has no bytes
+abbrev pub emptyResponse : Response → List ℕ → Bool
+emptyResponse Without rs = false
+emptyResponse Plain rs = eqb (length rs) 0
+emptyResponse Checked rs = eqb (length rs) 0
+
+-- "message empty, response empty where one is asked for, or more than 12 bytes with checks"
+unfoldable pub badMessage : List ℕ → Response → List ℕ → Bool
+badMessage main kind rs =
+    eqb (length main) 0 || (emptyResponse kind rs || ltb mostBytes (length (withCheck main) + length (responseSent kind rs)))
+
+-- What writing comes to: words, or a refusal by its number.
+pub data Sheet : Type 0 where
+  words : List ℕ → Sheet
+  turnedAway : (number : ℕ) → Sheet
+
+-- Writing with so many words lent: 36 is judged first, then 37, then 32.
+unfoldable pub writing : Clock → List ℕ → Response → List ℕ → ℕ → Sheet
+writing c main kind rs lent =
+    cond (not (goodOf c)) (turnedAway 36)
+    (cond (badMessage main kind rs) (turnedAway 37)
+    (cond (ltb lent mostWords) (turnedAway 32)
+    (words (frameWords c main kind rs))))
+
+-- An answer of the call as the paper has it: the number of its refusal, 0 where there is none, and the number of words.
+pub record Count : Type 0 where
+  pub number : ℕ
+  pub count : ℕ
+
+-- the number and the count of each case of the call's answer
+abbrev pub counted : Writing → Count
+counted (Words n) = record { number = 0; count = n }
+counted BadClock = record { number = 36; count = 0 }
+counted BadMessage = record { number = 37; count = 0 }
+counted FewLentWords = record { number = 32; count = 0 }
+
+-- the number and the count of what writing comes to
+abbrev pub counts : Sheet → Count
+counts (words ws) = record { number = 0; count = length ws }
+counts (turnedAway n) = record { number = n; count = 0 }
+
+-- the lent words afterwards: "words past those written are unchanged"
+abbrev pub wordsAfter : Sheet → List ℕ → List ℕ
+wordsAfter (words ws) lent = ws ++ drop (length ws) lent
+wordsAfter (turnedAway n) lent = lent
+
+-- The promise of writing: the answer, and the lent words from entry to exit.
+pub record WritePromise (c : Clock) (main : List ℕ) (kind : Response) (rs : List ℕ) (entry exit : List ℕ) (answer : Writing) : Type 0 where
+  pub counts-it : counted answer ≡ counts (writing c main kind rs (length entry))
+  pub lends-it : exit ≡ wordsAfter (writing c main kind rs (length entry)) entry

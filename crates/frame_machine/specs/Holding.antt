@@ -1,0 +1,47 @@
+-- What the machine holds before an interval: all of it is read off where the interval stands in document 01's sense.
+use Prim.Native.Nat.{ℕ, _+_}
+use mathlib.Core.Path.{_≡_}
+use mathlib.Core.Bool.{Bool}
+use mathlib.Core.List.{List, [], _++_}
+use lib.ListN.{length, take}
+use Rattle.checkbyte.specs.Register.{registerOf}
+use Rattle.frame.specs.Bits.{bytes}
+use Rattle.frame.specs.BitLaws.{leftOver, behind}
+use Rattle.frame.specs.Standing.{plain, checked, Standing, atSof, inMain, atNormalization, inResponse}
+use Rattle.frame.specs.Faults.{mostBytes, facts, mainBytes, responseBytes}
+use Rattle.frame_machine.specs.declared.Phase.{Phase}
+use Rattle.frame_machine.specs.declared.Phase.the-variants.{Sof, Main, Normalization, Plain, Checked}
+use Rattle.frame_machine.specs.declared.Machine.{Machine}
+
+-- the phase of each standing
+abbrev pub phaseOf : Standing → Phase
+phaseOf atSof = Sof
+phaseOf (inMain m) = Main
+phaseOf (atNormalization m) = Normalization
+phaseOf (inResponse plain m r) = Plain
+phaseOf (inResponse checked m r) = Checked
+
+-- the bytes that stand before the part
+abbrev pub earlier : Standing → List ℕ
+earlier atSof = []
+earlier (inMain m) = []
+earlier (atNormalization m) = bytes m
+earlier (inResponse k m r) = bytes m
+
+-- all bytes so far: the main part's, then the response's
+abbrev pub soFar : Standing → List ℕ
+soFar st = mainBytes st ++ responseBytes st
+
+-- what is held in a phase, with the bits of the part, the bytes before it, and all bytes so far
+abbrev pub holdingBy : Phase → List Bool → List ℕ → List ℕ → Machine
+holdingBy phase part before all =
+    record { phase = phase; partial = behind 1 (leftOver part); count = length all; began = length before; register = registerOf (bytes part) }
+
+-- the machine that holds what stands before an interval
+unfoldable pub holding : Standing → Machine
+holding st = holdingBy (phaseOf st) (facts st .part) (earlier st) (soFar st)
+
+-- The bytes that are kept aside for the frame: twelve, and the bytes so far stand first.
+pub record Kept (st : Standing) (kept : List ℕ) : Type 0 where
+  pub room : length kept ≡ mostBytes
+  pub first : take (length (soFar st)) kept ≡ soFar st

@@ -1,0 +1,136 @@
+-- One step of the frame machine, as the code takes it. What it has to do with document 01 is shown in Does.antt.
+use Prim.Native.Nat.{ℕ, _+_, _-_, _*_}
+use mathlib.Core.Bool.{Bool, true, false, cond, not, _&&_}
+use lib.Dec.{eqb, leb, ltb}
+use Rattle.symbol.specs.declared.Symbol.{Symbol}
+use Rattle.symbol.specs.declared.Symbol.the-variants.{Noise as NoiseWidth, Bit0, Bit1, Eod, Sof as SofWidth, Eof, Ifs, Break as BreakWidth, Stuck as StuckWidth}
+use Rattle.checkbyte.specs.Register.{allOnes, residue, stepOf as registerStep}
+use Rattle.frame.specs.declared.Fault.{Fault}
+use Rattle.frame.specs.declared.Fault.the-variants.{Noise, NoSof, Break, Stuck, LateSof, SplitByte, FewBytes, WrongCheck, EodAfterResponse, ThirteenthByte}
+use Rattle.frame.specs.Bits.{value}
+use Rattle.frame.specs.Faults.{mostBytes}
+use Rattle.frame_machine.specs.declared.Phase.{Phase}
+use Rattle.frame_machine.specs.declared.Phase.the-variants.{Sof, Main, Normalization, Plain, Checked}
+use Rattle.frame_machine.specs.declared.Machine.{Machine}
+use Rattle.frame_machine.specs.declared.Event.the-variants.{Going, Byte, Closed, Faulty}
+use Rattle.frame_machine.specs.declared.Stepped.{Stepped}
+use Rattle.frame_machine.specs.declared.shut.Asked.{Asked}
+use Rattle.frame_machine.specs.declared.Meaning.{Meaning}
+use Rattle.frame_machine.specs.declared.Meaning.the-variants.{Bit, Shut, Sof as Start, Wrong}
+
+-- the machine before the SOF
+abbrev pub fresh : Machine
+fresh = record { phase = Sof; partial = 1; count = 0; began = 0; register = allOnes }
+
+-- the interval is at fault
+abbrev pub faulty : Machine → Fault → Stepped
+faulty m f = record { machine = m; event = Faulty f }
+
+-- the interval closes the frame
+abbrev pub closing : Machine → Stepped
+closing m = record { machine = m; event = Closed }
+
+-- the next part begins behind the interval, with a register of its own
+abbrev pub begun : Machine → Phase → Stepped
+begun m p =
+    record { machine = record { phase = p; partial = 1; count = m .count; began = m .count; register = allOnes }; event = Going }
+
+-- a bit of a byte: `bits` are those of the byte so far, behind their leading 1
+abbrev pub pushed : Machine → ℕ → Stepped
+pushed m bits =
+    cond (ltb bits 256)
+    (record {
+      machine = record { phase = m .phase; partial = bits; count = m .count; began = m .began; register = m .register };
+      event = Going;
+    })
+    (record {
+      machine = record { phase = m .phase; partial = 1; count = m .count + 1; began = m .began; register = registerStep (m .register) (bits - 256) };
+      event = Byte (bits - 256);
+    })
+
+-- the same in a frame that may be full: twelve whole bytes take no bit more
+unfoldable pub pushOf : Machine → Bool → Stepped
+pushOf m one = cond (leb mostBytes (m .count)) (faulty m ThirteenthByte) (pushed m (m .partial * 2 + value one))
+
+-- the normalization bit: a short one, which is a 1, begins a plain response
+abbrev pub responseBegun : Machine → Bool → Stepped
+responseBegun m one = cond one (begun m Plain) (begun m Checked)
+
+-- the phases in which bits belong to a byte
+abbrev pub partOf : Phase → Bool
+partOf Sof = false
+partOf Normalization = false
+partOf Main = true
+partOf Plain = true
+partOf Checked = true
+
+-- the SOF's phase
+abbrev pub sofPhase : Phase → Bool
+sofPhase Sof = true
+sofPhase Normalization = false
+sofPhase Main = false
+sofPhase Plain = false
+sofPhase Checked = false
+
+-- a bit's width, by where it stands
+unfoldable pub bitOf : Machine → Bool → Stepped
+bitOf m one = cond (partOf (m .phase)) (pushOf m one) (cond (sofPhase (m .phase)) (faulty m NoSof) (responseBegun m one))
+
+-- the SOF's width: the SOF, or a fault anywhere behind it
+unfoldable pub sofOf : Machine → Stepped
+sofOf m = cond (sofPhase (m .phase)) (begun m Main) (faulty m LateSof)
+
+-- what is asked of a part at its EOD or end
+abbrev pub asking : ℕ → Bool → Asked
+asking fewest checked = record { fewest = fewest; checked = checked }
+
+-- that of each part; nothing is asked where no EOD or end can stand
+abbrev pub askedOf : Phase → Asked
+askedOf Sof = asking 0 false
+askedOf Normalization = asking 0 false
+askedOf Main = asking 2 true
+askedOf Plain = asking 1 false
+askedOf Checked = asking 2 true
+
+-- an EOD that is not at fault itself: a response may follow the main part, and nothing follows a response
+abbrev pub eodIn : Phase → Machine → Stepped
+eodIn Sof m = begun m Main
+eodIn Normalization m = begun m Checked
+eodIn Main m = begun m Normalization
+eodIn Plain m = faulty m EodAfterResponse
+eodIn Checked m = faulty m EodAfterResponse
+
+-- the same, by where the machine stands
+abbrev pub eodOf : Machine → Stepped
+eodOf m = eodIn (m .phase) m
+
+-- an EOD or an end: 16, 17 and 18 are judged in this order, then an EOD goes on and an end closes
+unfoldable pub closeOf : Machine → Bool → Stepped
+closeOf m eod =
+    cond (not (eqb (m .partial) 1)) (faulty m SplitByte)
+    (cond (ltb (m .count) (m .began + askedOf (m .phase) .fewest)) (faulty m FewBytes)
+    (cond (askedOf (m .phase) .checked && not (eqb (m .register) residue)) (faulty m WrongCheck)
+    (cond eod (eodOf m) (closing m))))
+
+-- what a symbol means inside a frame
+abbrev pub meaningOf : Symbol → Meaning
+meaningOf NoiseWidth = Wrong Noise
+meaningOf Bit0 = Bit false
+meaningOf Bit1 = Bit true
+meaningOf Eod = Shut true
+meaningOf SofWidth = Start
+meaningOf Eof = Shut false
+meaningOf Ifs = Shut false
+meaningOf BreakWidth = Wrong Break
+meaningOf StuckWidth = Wrong Stuck
+
+-- what a meaning does
+abbrev pub stepBy : Machine → Meaning → Stepped
+stepBy m (Bit one) = bitOf m one
+stepBy m (Shut eod) = closeOf m eod
+stepBy m Start = sofOf m
+stepBy m (Wrong f) = faulty m f
+
+-- one symbol more
+abbrev pub stepOf : Machine → Symbol → Stepped
+stepOf m s = stepBy m (meaningOf s)

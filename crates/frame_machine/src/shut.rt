@@ -1,0 +1,114 @@
+// The EOD or the end behind a part: whether the part may be closed there, and what follows.
+ghost use mathlib.Core.Path.{_≡_};
+ghost use mathlib.Core.Bool.{_&&_, not};
+ghost use Prim.Native.Nat.{_+_};
+ghost use lib.Dec.{eqb, ltb};
+ghost use Rattle.checkbyte.specs.Register.{residue};
+ghost use Rattle.frame_machine.specs.Steps.{closing, asking, askedOf, eodOf, closeOf};
+use crate::Event;
+use crate::Machine;
+use crate::NO_BITS;
+use crate::Phase;
+use crate::Stepped;
+use crate::begin;
+use crate::fail;
+use frame::Fault;
+
+// What is asked of a part at its EOD or end: how many bytes at least, and whether the last of them is a check byte.
+struct Asked {
+    fewest: usize,
+    checked: bool,
+}
+
+// The fewest bytes of each part, its check byte included.
+const FEWEST_MAIN: usize = 2;
+
+const FEWEST_PLAIN: usize = 1;
+
+const FEWEST_CHECKED: usize = 2;
+
+// The interval is the end that closes the frame.
+fn close(machine: Machine) -> Stepped
+    ensures { λ r. ⌜ r ≡ closing machine ⌝ }
+{
+    Stepped {
+        event: Event::Closed,
+        machine,
+    }
+}
+
+// What is asked of a part.
+fn ask(fewest: usize, checked: bool) -> Asked
+    ensures { λ r. ⌜ r ≡ asking fewest checked ⌝ }
+{
+    Asked { fewest, checked }
+}
+
+// What is asked of the part that closes. The places of the SOF and of the normalization bit are active, where no EOD or
+// end can stand: nothing is asked there, here and below.
+fn asked_of(phase: Phase) -> Asked
+    ensures { λ r. ⌜ r ≡ askedOf phase ⌝ }
+{
+    match phase {
+        Phase::Sof => ask(0, false),
+        Phase::Normalization => ask(0, false),
+        Phase::Main => ask(FEWEST_MAIN, true),
+        Phase::Plain => ask(FEWEST_PLAIN, false),
+        Phase::Checked => ask(FEWEST_CHECKED, true),
+    }
+}
+
+// Whether the check byte of a part that has one is wrong, by what the register has come to over the part.
+fn wrong_check(checked: bool, register: u8) -> bool
+    ensures { λ r. ⌜ r ≡ (checked && not (eqb register residue)) ⌝ }
+{
+    if checked {
+        return register != checkbyte::RESIDUE;
+    }
+    false
+}
+
+// Whether a part has fewer bytes than are asked of it.
+fn too_few(count: usize, began: usize, fewest: usize) -> bool
+    ensures { λ r. ⌜ r ≡ ltb count (began + fewest) ⌝ }
+{
+    if count < fewest {
+        return true;
+    }
+    count - fewest < began
+}
+
+// What follows an EOD that is not at fault itself: a response behind the main part, and nothing behind a response.
+fn behind_eod(machine: Machine) -> Stepped
+    ensures { λ r. ⌜ r ≡ eodOf machine ⌝ }
+{
+    let phase = machine.phase;
+    match phase {
+        Phase::Sof => begin(machine, Phase::Main),
+        Phase::Normalization => begin(machine, Phase::Checked),
+        Phase::Main => begin(machine, Phase::Normalization),
+        Phase::Plain => fail(machine, Fault::EodAfterResponse),
+        Phase::Checked => fail(machine, Fault::EodAfterResponse),
+    }
+}
+
+// An EOD or an end closes a part: it has no open byte, enough bytes, and the right check byte.
+pub fn close_part(machine: Machine, eod: bool) -> Stepped
+    ensures { λ r. ⌜ r ≡ closeOf machine eod ⌝ }
+{
+    let phase = machine.phase;
+    let asked = asked_of(phase);
+    if machine.partial != NO_BITS {
+        return fail(machine, Fault::SplitByte);
+    }
+    if too_few(machine.count, machine.began, asked.fewest) {
+        return fail(machine, Fault::FewBytes);
+    }
+    if wrong_check(asked.checked, machine.register) {
+        return fail(machine, Fault::WrongCheck);
+    }
+    if eod {
+        return behind_eod(machine);
+    }
+    close(machine)
+}

@@ -1,0 +1,41 @@
+-- How the tests of a call that writes decide its promise: a law for each way out, in the order of the refusals.
+use Prim.Native.Nat.{ℕ, _≤_, _<_}
+use mathlib.Core.Path.{_≡_, refl, sym, ap, _∙_}
+use mathlib.Core.Bool.{true, false}
+use mathlib.Core.List.{List}
+use lib.ListN.{length}
+use borrow.Author.Tests.{lt-ltb, le-ltb}
+use Rattle.symbol.specs.declared.Clock.{Clock}
+use Rattle.symbol.specs.Clocks.{goodOf}
+use Rattle.frame.specs.declared.Response.{Response}
+use Rattle.frame.specs.declared.Writing.{Writing}
+use Rattle.frame.specs.declared.Writing.the-variants.{Words, BadClock, BadMessage, FewLentWords}
+use Rattle.frame.specs.Writing.{Sheet, words, turnedAway, writing, frameWords, badMessage, mostWords, counted, counts, wordsAfter, WritePromise}
+
+module _ (c : Clock) (main : List ℕ) (kind : Response) (rs entry : List ℕ) where
+  -- what writing comes to settles the promise
+  promised : (s : Sheet) (exit : List ℕ) (answer : Writing) → writing c main kind rs (length entry) ≡ s
+      → counted answer ≡ counts s → exit ≡ wordsAfter s entry → WritePromise c main kind rs entry exit answer
+  promised s exit answer e p q =
+      record { counts-it = p ∙ ap counts (sym e); lends-it = q ∙ ap (λ (x : Sheet). wordsAfter x entry) (sym e) }
+
+  pub refuses-36 : goodOf c ≡ false → WritePromise c main kind rs entry entry BadClock
+  unfolding writing
+  refuses-36 g = promised (turnedAway 36) entry BadClock (rw g) refl refl
+
+  module _ (g : goodOf c ≡ true) where
+    pub refuses-37 : badMessage main kind rs ≡ true → WritePromise c main kind rs entry entry BadMessage
+    unfolding writing
+    refuses-37 b = promised (turnedAway 37) entry BadMessage (rw (g, b)) refl refl
+
+    module _ (b : badMessage main kind rs ≡ false) where
+      pub refuses-32 : length entry < mostWords → WritePromise c main kind rs entry entry FewLentWords
+      unfolding writing
+      refuses-32 h = promised (turnedAway 32) entry FewLentWords (rw (g, b, lt-ltb (length entry) mostWords h)) refl refl
+
+      pub writes : mostWords ≤ length entry → (n : ℕ) (exit : List ℕ) → n ≡ length (frameWords c main kind rs)
+          → exit ≡ wordsAfter (words (frameWords c main kind rs)) entry → WritePromise c main kind rs entry exit (Words n)
+      unfolding writing
+      writes h n exit p q =
+          promised (words (frameWords c main kind rs)) exit (Words n) (rw (g, b, le-ltb (length entry) mostWords h))
+          (ap (λ (k : ℕ). counted (Words k)) p) q
