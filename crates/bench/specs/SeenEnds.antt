@@ -8,11 +8,11 @@ use native.Mathlib.Omega.{arith}
 use lib.Dec.{eqb}
 use lib.ListN.{length, take, getD}
 use borrow.Author.Tests.{eq-eqb}
-use Rattle.checkbyte.specs.Register.{withCheck}
 use Rattle.checkbyte.specs.Differ.{Bytes}
 use Rattle.frame.specs.declared.Response.the-variants.{Without}
 use Rattle.frame.specs.Faults.{mostBytes}
 use Rattle.frame.specs.Reading.{good, reading}
+use Rattle.frame.specs.Writing.{frameSent}
 use Rattle.bench.specs.declared.Station.{Station}
 use Rattle.bench.specs.declared.Fared.the-variants.{Idle, Through}
 use Rattle.bench.specs.declared.Called.{Called}
@@ -96,7 +96,7 @@ around (x ∷ early) e late entry exit h = go h (λ middle. around early e late 
 pub record Shows (s : ℕ) (x : List ℕ) (lentExit : List ℕ) (a : RoundAnswer) : Type 0 where
   pub told : toldNumber (a .told) ≡ 0
   pub through : getD (a .verdicts) s (verdictOf Idle) ≡ verdictOf Through
-  pub readable : (bytesLent : ℕ) → mostBytes ≤ bytesLent → reading lentExit 0 bytesLent ≡ good (withCheck x) [] Without 0 (2 + length (bitsSent x))
+  pub readable : (bytesLent : ℕ) → mostBytes ≤ bytesLent → reading lentExit 0 bytesLent ≡ good (frameSent x Without [] 0 (2 + length (bitsSent x)))
   -- the line time is the sum of the words written, less the closing 300
   pub time : a .«line_time» .0 + 300 ≡ sumOf (take (a .words) lentExit)
   pub bound : a .«line_time» .0 ≤ 14438

@@ -10,11 +10,11 @@ use lib.ListN.{length}
 use lib.Seq.{getD-set-same}
 use borrow.Author.Tests.{eq-eqb}
 use Rattle.laws.specs.Tests.{never}
-use Rattle.checkbyte.specs.Register.{withCheck}
 use Rattle.checkbyte.specs.Differ.{Bytes}
 use Rattle.frame.specs.declared.Response.the-variants.{Without}
 use Rattle.frame.specs.Faults.{mostBytes}
 use Rattle.frame.specs.Reading.{good, reading}
+use Rattle.frame.specs.Writing.{frameSent}
 use Rattle.bench.specs.declared.Station.{Station}
 use Rattle.bench.specs.declared.Fared.the-variants.{Through}
 use Rattle.bench.specs.Stations.{mostStored, Bits, bitsSent, waitingAt}
@@ -40,7 +40,7 @@ pub record Sent (s : ℕ) (x : List ℕ) (lent : List ℕ) (row : List Station) 
   pub through : fareAt row s ≡ Through
   -- whole and readable: x is what demand 2's reader finds in the lent words afterwards
   pub readable : (bytesLent : ℕ) → mostBytes ≤ bytesLent
-      → reading (lentAfter row lent) 0 bytesLent ≡ good (withCheck x) [] Without 0 (2 + length (bitsSent x))
+      → reading (lentAfter row lent) 0 bytesLent ≡ good (frameSent x Without [] 0 (2 + length (bitsSent x)))
   -- "No round takes more than 14,438 µs of line time"
   pub time : roundOf row .lineTime + 300 ≡ sumOf (roundOf row .words)
   pub bound : roundOf row .lineTime ≤ 14438

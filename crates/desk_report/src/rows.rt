@@ -10,11 +10,9 @@ use crate::fields::put_fault;
 use crate::fields::put_field;
 use crate::fields::put_frame;
 use crate::fields::put_place;
+use frame::MOST_BYTES;
 use frame::Reading;
 use units::Place;
-
-// The most bytes of a frame.
-const MOST_BYTES: usize = 12;
 
 // Where reading goes on behind an answer, or that it does not.
 pub(crate) enum Next {

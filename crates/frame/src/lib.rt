@@ -29,6 +29,17 @@ pub enum Fault {
     ThirteenthByte,
 }
 
+// What an interval shows inside a frame: it is wrong by itself, a SOF, a bit, or what shuts a part, an EOD or an end.
+pub enum Sign {
+    Wrong(Fault),
+    Sof,
+    Bit(bool),
+    Shut(bool),
+}
+
+// All bytes of a frame together are at most so many.
+pub const MOST_BYTES: usize = 12;
+
 // What reading from a position answers. PastRecording and FewLentBytes are refusals, and change nothing.
 pub enum Reading {
     Frame {

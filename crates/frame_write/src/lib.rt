@@ -11,13 +11,12 @@ ghost use Rattle.checkbyte.specs.Register.{checkFrom};
 ghost use Rattle.frame.specs.Bits.{odd, bitsOfByte};
 ghost use Rattle.symbol.specs.Sending.{bitWidth};
 ghost use Rattle.frame.specs.Writing.{bitWidths, byteWidths, responseWidths, frameWords, badMessage, WritePromise};
+use frame::MOST_BYTES;
 use frame::Response;
 use frame::Writing;
 use symbol::Clock;
 
-// The most bytes of a frame, its checks included, and the words that the longest one takes.
-const MOST_BYTES: usize = 12;
-
+// The words that the longest frame takes.
 const MOST_WORDS: usize = 101;
 
 // The width of the opening and of the closing end.

@@ -1,9 +1,9 @@
--- `frame_machine::meaning_of` meets its contract, symbol by symbol.
+-- `frame_machine::sign_of` meets its contract, symbol by symbol.
 use mathlib.Core.Path.{ap, sym}
-use Rattle.frame_machine.specs.Steps.{meaningOf}
+use Rattle.frame_machine.specs.Steps.{signFor}
 use borrow.Author.Needs.{needs}
-use Rattle.frame_machine.proofs.meaning_of.Statement.{statement}
-use Rattle.frame_machine.proofs.meaning_of.Tie as tie
+use Rattle.frame_machine.proofs.sign_of.Statement.{statement}
+use Rattle.frame_machine.proofs.sign_of.Tie as tie
 
 enum-told : tie.Need-enum-told
 enum-told c = search needs
@@ -33,7 +33,7 @@ enum-told-9 : tie.Need-enum-told-9
 enum-told-9 c = search needs
 
 returns : tie.Need-returns
-returns c = ap meaningOf (sym (c .enum-told .given .1))
+returns c = ap signFor (sym (c .enum-told .given .1))
 
 returns-2 : tie.Need-returns-2
 returns-2 c = search needs
@@ -54,13 +54,13 @@ returns-7 : tie.Need-returns-7
 returns-7 c = search needs
 
 returns-8 : tie.Need-returns-8
-returns-8 c = ap meaningOf (sym (c .enum-told8 .given .1))
+returns-8 c = ap signFor (sym (c .enum-told8 .given .1))
 
 returns-9 : tie.Need-returns-9
-returns-9 c = ap meaningOf (sym (c .enum-told9 .given .1))
+returns-9 c = ap signFor (sym (c .enum-told9 .given .1))
 
-pub meaning-of-spec : {M : Type 1} → statement M
-meaning-of-spec =
+pub sign-of-spec : {M : Type 1} → statement M
+sign-of-spec =
     tie.close
     (tie.spec
     enum-told
