@@ -1,5 +1,8 @@
 pub mod Settled
 pub mod Tests
+pub mod Meant
+pub mod Rules
+pub mod RuleLaws
 pub mod Each
 pub mod Lent
 pub mod Walk
