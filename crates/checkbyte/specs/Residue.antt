@@ -31,7 +31,7 @@ unfolding eightShifts
 eight-lt r = shift-lt (shift (shift (shift (shift (shift (shift (shift r)))))))
 
 -- The register stays a byte, whatever is fed.
-pub step-lt : (r b : ℕ) → stepOf r b < 256
+step-lt : (r b : ℕ) → stepOf r b < 256
 unfolding stepOf
 step-lt r b = eight-lt (bitXor r b)
 

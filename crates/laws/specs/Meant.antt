@@ -4,7 +4,7 @@ use mathlib.Core.Path.{_≡_, refl}
 use mathlib.Core.Bool.{Bool, true, false, not, _&&_, _||_}
 use mathlib.Core.Logic.{_↔_, _⊎_, inl, inr, ⊎-elim}
 use lib.Dec.{eqb, leb, ltb}
-use borrow.Author.Tests.{eqb-true, eq-eqb, leb-true, le-leb, ltb-true, lt-ltb}
+use borrow.Author.Tests.{eqb-true, eq-eqb, leb-true, le-leb, ltb-true, lt-ltb, not-true}
 use Rattle.laws.specs.Tests.{never}
 
 -- a test, and what it says where it says true
@@ -48,6 +48,10 @@ isNot a = record { says = not (a .says); Holds = ¬ (a .Holds); means = not-mean
 abbrev pub set : Bool → Test
 set t = record { says = t; Holds = t ≡ true; means = (λ e. e, λ e. e) }
 
+-- a flag that is not set
+abbrev pub unset : Bool → Test
+unset t = record { says = not t; Holds = t ≡ false; means = (not-true t, λ e. rw e) }
+
 -- two numbers are equal
 abbrev pub equals : ℕ → ℕ → Test
 equals a b = record { says = eqb a b; Holds = a ≡ b; means = (eqb-true a b, eq-eqb a b) }
@@ -60,10 +64,12 @@ below a b = record { says = ltb a b; Holds = a < b; means = (ltb-true a b, lt-lt
 abbrev pub atMost : ℕ → ℕ → Test
 atMost a b = record { says = leb a b; Holds = a ≤ b; means = (leb-true a b, le-leb a b) }
 
--- A test says false exactly when what it means does not hold.
-pub fails : (t : Test) → (t .says ≡ false) ↔ (¬ (t .Holds))
-fails t = go (t .says) (t .means)
-  where
-    go : (s : Bool) → Means s (t .Holds) → (s ≡ false) ↔ (¬ (t .Holds))
-    go true m = (λ e. never refl e, λ n. absurd (n (m .0 refl)))
-    go false m = (λ e h. never (m .1 h) refl, λ n. refl)
+-- A flag that is not set is unset ..
+pub not-set : (t : Bool) → ¬ (t ≡ true) → t ≡ false
+not-set true n = absurd (n refl)
+not-set false n = refl
+
+-- .. and one that is not unset is set.
+pub not-unset : (t : Bool) → ¬ (t ≡ false) → t ≡ true
+not-unset true n = refl
+not-unset false n = absurd (n refl)

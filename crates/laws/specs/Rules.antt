@@ -33,6 +33,6 @@ NoneHolds [] = Unit {0}
 NoneHolds (r ∷ rs) = (¬ (r .when .Holds)) × NoneHolds rs
 
 -- A call is turned away with a number exactly when something is so, and then everything is as it was.
-pub record TurnedAway (answered refusal : ℕ) (When AsItWas : Type 0) : Type 0 where
+pub record TurnedAway {A : Type 0} (answered refusal : A) (When AsItWas : Type 0) : Type 0 where
   pub exactly : (answered ≡ refusal) ↔ When
   pub unchanged : When → AsItWas

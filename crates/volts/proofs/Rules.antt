@@ -1,38 +1,37 @@
 -- What the tests of `intervals` say of the rules by which a call is turned away. Assumes nothing.
 use Prim.Native.Nat.{ℕ, _+_, _≤_, _<_}
-use mathlib.Core.Path.{_≡_, refl, sym, ap, _∙_}
-use mathlib.Core.Bool.{Bool, true, false, not}
+use mathlib.Core.Path.{_≡_, refl, sym, _∙_}
+use mathlib.Core.Bool.{Bool, false, not}
 use mathlib.Core.List.{List, [], _∷_}
 use native.Mathlib.Omega.{arith}
-use borrow.Author.Tests.{lt-ltb, le-ltb}
 use lib.Ieee.{Float}
 use lib.ListN.{length}
+use Rattle.laws.specs.Tests.{never}
+use Rattle.laws.specs.Rules.{NoneHolds}
 use Rattle.volts.specs.Judging.{goodGate}
 use Rattle.volts.specs.Intervals.{intervalsOf}
-use Rattle.volts.specs.Tracing.{mostSamples, tooManySamples, gateNotGood, tooFewWords}
+use Rattle.volts.specs.Tracing.{mostSamples, sampleUnusable, rules}
 use Rattle.volts.specs.declared.Gate.{Gate}
+use Rattle.volts.proofs.Finiteness.{said-yes}
 
-module _ (s : List Float) where
-  pub too-many : mostSamples < length s → tooManySamples s ≡ true
-  unfolding tooManySamples
-  too-many h = lt-ltb mostSamples (length s) h
+-- what the two tests of lengths say, of the most samples and of the lent words
+pub not-above : {a b : ℕ} → a ≤ b → ¬ (b < a)
+not-above h k = omega arith
 
-  pub not-too-many : length s ≤ mostSamples → tooManySamples s ≡ false
-  unfolding tooManySamples
-  not-too-many h = le-ltb mostSamples (length s) h
+pub too-few : {a b : ℕ} → b ≤ a → b < a + 1
+too-few h = omega arith
 
-  pub too-few : (lent : List ℕ) → length lent ≤ length s → tooFewWords s lent ≡ true
-  unfolding tooFewWords
-  too-few lent h = lt-ltb (length lent) (length s + 1) (omega arith)
+pub not-too-few : {a b : ℕ} → a < b → ¬ (b < a + 1)
+not-too-few h k = omega arith
 
-  pub not-too-few : (lent : List ℕ) → length s < length lent → tooFewWords s lent ≡ false
-  unfolding tooFewWords
-  not-too-few lent h = le-ltb (length lent) (length s + 1) (omega arith)
+-- a test `!good_gate(..)` that fails says that the gate is good
+pub gate-good : {r a : Bool} → r ≡ a → not r ≡ false → ¬ (a ≡ false)
+gate-good e h k = never (said-yes e h) k
 
--- a test `!good_gate(..)` says whether the gate is not good
-pub gate-test : (g : Gate) {r b : Bool} → r ≡ goodGate g → not r ≡ b → gateNotGood g ≡ b
-unfolding gateNotGood
-gate-test g e h = sym (ap not e) ∙ h
+-- Where every test lets the call through, no rule holds.
+pub none-holds : (g : Gate) (s : List Float) (lent : List ℕ) {good found : Bool} → length s ≤ mostSamples → good ≡ goodGate g → not good ≡ false
+    → length s < length lent → found ≡ sampleUnusable g s → found ≡ false → NoneHolds (rules g s lent)
+none-holds g s lent few e good words f none = (not-above few, (gate-good e good, (not-too-few words, (λ k. never k (sym f ∙ none), tt))))
 
 -- a trace of no samples has no intervals
 pub none : (g : Gate) (s : List Float) → length s ≡ 0 → intervalsOf g s ≡ []

@@ -8,7 +8,7 @@ use lib.Ieee.{Float, nan, inf, fin, ofInt, sub, add, neg, sum, round, size, unit
 use lib.IntN.{pos, negsuc}
 use Rattle.volts.specs.Judging.{isFinite, goodGate, against, judged}
 use Rattle.volts.specs.Intervals.{intervalsOf}
-use Rattle.volts.specs.Tracing.{wrote, turnedAway, tooManySamples, gateNotGood, tooFewWords, sampleUnusable, outcome}
+use Rattle.volts.specs.Tracing.{wrote, turnedAway, sampleUnusable, outcome}
 use Rattle.volts.specs.Starred.{volts, usualGate}
 use Rattle.volts.specs.declared.Gate.{Gate}
 use Rattle.volts.specs.declared.Judged.the-variants.{Active, Passive, Between, Unusable}
@@ -54,7 +54,7 @@ pub record Edges : Type 0 where
 
 -- They are so.
 pub edges : Edges
-unfolding outcome tooManySamples gateNotGood goodGate tooFewWords sampleUnusable judged against isFinite ofInt sub add neg sum round size units odd span climb lt le eq trailingZeros
+unfolding outcome goodGate sampleUnusable judged against isFinite ofInt sub add neg sum round size units odd span climb lt le eq trailingZeros
 edges = record {
   at-active = refl;
   at-passive = refl;

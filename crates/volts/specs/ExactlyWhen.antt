@@ -1,108 +1,92 @@
--- When the open call gives which answer: each refusal exactly when its rule holds and no earlier rule does, with the words as
--- they were, and a number of intervals exactly when no rule holds. Laws, with the statement of the rules that they speak of.
-use Prim.Native.Nat.{ℕ}
-use mathlib.Core.Path.{_≡_, refl, sym, ap, subst, _∙_}
+-- When the open call gives which answer: each refusal exactly when its rule is the first to hold, with the words as they
+-- were, and a number of intervals exactly when no rule holds. Laws, with what has to be so for each outcome.
+use Prim.Native.Nat.{ℕ, _<_}
+use mathlib.Core.Path.{_≡_, refl, sym, ap, _∙_}
 use mathlib.Core.Bool.{Bool, true, false, cond}
 use mathlib.Core.List.{List, _++_}
 use mathlib.Core.Logic.{_↔_}
+use native.Mathlib.Omega.{arith}
+use lib.Dec.{eqb}
 use lib.Ieee.{Float}
 use lib.ListN.{length, drop}
+use borrow.Author.Tests.{eqb-true, ne-eqb}
+use Rattle.laws.specs.Rules.{firstRule, FirstToHold, NoneHolds, TurnedAway}
+use Rattle.laws.specs.RuleLaws.{first-is, none-is}
 use Rattle.volts.specs.Intervals.{intervalsOf}
-use Rattle.volts.specs.Tracing.{wrote, turnedAway, numbered, wordsAfter, Promise}
-use Rattle.volts.specs.Tracing.{tooManySamples, gateNotGood, tooFewWords, sampleUnusable, firstRefusal, outcome}
-use Rattle.volts.specs.Settling.{same-number}
+use Rattle.volts.specs.Tracing.{Outcome, wrote, turnedAway, numbered, rules, outcomeBy, outcome, wordsAfter, Promise}
 use Rattle.volts.specs.declared.Gate.{Gate}
 use Rattle.volts.specs.declared.Traced.{Traced}
 use Rattle.volts.specs.declared.Traced.the-variants.{Intervals, TooManySamples, BadGate, TooFewWords, UnusableSample}
 
--- what has to be so for each answer, where the four rules hold or not as the first arguments say and there are n intervals
-abbrev pub Decides : Bool → Bool → Bool → Bool → ℕ → Traced → Type 0
-Decides r33 r34 r32 r35 n TooManySamples = r33 ≡ true
-Decides r33 r34 r32 r35 n BadGate = (r33 ≡ false) × (r34 ≡ true)
-Decides r33 r34 r32 r35 n TooFewWords = (r33 ≡ false) × (r34 ≡ false) × (r32 ≡ true)
-Decides r33 r34 r32 r35 n UnusableSample = (r33 ≡ false) × (r34 ≡ false) × (r32 ≡ false) × (r35 ≡ true)
-Decides r33 r34 r32 r35 n (Intervals k) = (r33 ≡ false) × (r34 ≡ false) × (r32 ≡ false) × (r35 ≡ false) × (k ≡ n)
+-- what has to be so of a call for each outcome
+abbrev pub RuleOf : Gate → List Float → List ℕ → Outcome → Type 0
+RuleOf g s lent (wrote n) = NoneHolds (rules g s lent) × (n ≡ length (intervalsOf g s))
+RuleOf g s lent (turnedAway k) = FirstToHold k (rules g s lent)
 
--- what has to be so of a call for each answer
-abbrev pub RuleOf : Gate → List Float → List ℕ → Traced → Type 0
-RuleOf g s lent r = Decides (tooManySamples s) (gateNotGood g) (tooFewWords s lent) (sampleUnusable g s) (length (intervalsOf g s)) r
+-- the number of an outcome; 0 where intervals are written
+abbrev refusedAs : Outcome → ℕ
+refusedAs (wrote n) = 0
+refusedAs (turnedAway k) = k
 
--- the answer by the first rule that holds
-abbrev chosen : Bool → Bool → Bool → Bool → ℕ → Traced
-chosen r33 r34 r32 r35 n = cond r33 TooManySamples (cond r34 BadGate (cond r32 TooFewWords (cond r35 UnusableSample (Intervals n))))
+-- the value of an outcome
+abbrev valueOf : Outcome → ℕ
+valueOf (wrote n) = n
+valueOf (turnedAway k) = 0
 
-chosen-number : (a b c d : Bool) (n : ℕ) → numbered (chosen a b c d n) ≡ firstRefusal a b c d n
-chosen-number true b c d n = refl
-chosen-number false true c d n = refl
-chosen-number false false true d n = refl
-chosen-number false false false true n = refl
-chosen-number false false false false n = refl
-
-chosen-decides : (a b c d : Bool) (n : ℕ) → Decides a b c d n (chosen a b c d n)
-chosen-decides true b c d n = refl
-chosen-decides false true c d n = (refl, refl)
-chosen-decides false false true d n = (refl, refl, refl)
-chosen-decides false false false true n = (refl, refl, refl, refl)
-chosen-decides false false false false n = (refl, refl, refl, refl, refl)
-
-decides-chosen : (a b c d : Bool) (n : ℕ) (r : Traced) → Decides a b c d n r → chosen a b c d n ≡ r
-decides-chosen a b c d n TooManySamples h = rw h
-decides-chosen a b c d n BadGate h = rw (h .0, h .1)
-decides-chosen a b c d n TooFewWords h = rw (h .0, h .1, h .2)
-decides-chosen a b c d n UnusableSample h = rw (h .0, h .1, h .2, h .3)
-decides-chosen a b c d n (Intervals k) h = rw (h .0, h .1, h .2, h .3, h .4)
-
-module _ (a b c d : Bool) (n : ℕ) (r : Traced) where
-  rule→number : Decides a b c d n r → firstRefusal a b c d n ≡ numbered r
-  rule→number h = sym (chosen-number a b c d n) ∙ ap numbered (decides-chosen a b c d n r h)
-
-  number→rule : firstRefusal a b c d n ≡ numbered r → Decides a b c d n r
-  number→rule e = subst (Decides a b c d n) (same-number (chosen a b c d n) r (chosen-number a b c d n ∙ e)) (chosen-decides a b c d n)
+as-number : (k n : ℕ) → refusedAs (outcomeBy k n) ≡ k
+as-number k n = go (eqb k 0) refl
+  where
+    go : (t : Bool) → eqb k 0 ≡ t → refusedAs (cond t (wrote n) (turnedAway k)) ≡ k
+    go true e = sym (eqb-true k 0 e)
+    go false e = refl
 
 module _ (g : Gate) (s : List Float) (lent : List ℕ) where
-  rule→outcome : (r : Traced) → RuleOf g s lent r → outcome g s lent ≡ numbered r
+  -- The outcome is refusal k exactly when rule k is the first to hold ..
+  refused : (k : ℕ) → 0 < k → (outcome g s lent ≡ turnedAway k) ↔ FirstToHold k (rules g s lent)
   unfolding outcome
-  rule→outcome r h = rule→number (tooManySamples s) (gateNotGood g) (tooFewWords s lent) (sampleUnusable g s) (length (intervalsOf g s)) r h
+  refused k h =
+      let law = first-is k (rules g s lent) h refl in (
+        λ e. law .0 (sym (as-number (firstRule (rules g s lent)) (length (intervalsOf g s))) ∙ ap refusedAs e),
+        λ f. rw (law .1 f, ne-eqb k 0 (λ e. omega arith)),
+      )
 
-  outcome→rule : (r : Traced) → outcome g s lent ≡ numbered r → RuleOf g s lent r
+  -- .. and n intervals exactly when none holds and there are n.
+  written-is : (n : ℕ) → (outcome g s lent ≡ wrote n) ↔ RuleOf g s lent (wrote n)
   unfolding outcome
-  outcome→rule r e = number→rule (tooManySamples s) (gateNotGood g) (tooFewWords s lent) (sampleUnusable g s) (length (intervalsOf g s)) r e
+  written-is n =
+      let law = none-is (rules g s lent) refl in
+      let zero : outcomeBy (firstRule (rules g s lent)) (length (intervalsOf g s)) ≡ wrote n → firstRule (rules g s lent) ≡ 0 =
+      λ e. sym (as-number (firstRule (rules g s lent)) (length (intervalsOf g s))) ∙ ap refusedAs e in (
+        λ e. (law .0 (zero e), sym (ap valueOf (rw (zero e) at e))),
+        λ f. rw (law .1 (f .0), f .1),
+      )
+
+  by-rule : (r : Traced) → RuleOf g s lent (numbered r) → outcome g s lent ≡ numbered r
+  by-rule (Intervals n) h = written-is n .1 h
+  by-rule TooManySamples h = refused 33 (omega arith) .1 h
+  by-rule BadGate h = refused 34 (omega arith) .1 h
+  by-rule TooFewWords h = refused 32 (omega arith) .1 h
+  by-rule UnusableSample h = refused 35 (omega arith) .1 h
 
   -- a call whose answer's rule holds, and that leaves the words that belong to that answer, keeps the promise
-  pub promised : {r : Traced} {left : List ℕ} → RuleOf g s lent r → left ≡ wordsAfter (numbered r) (intervalsOf g s) lent → Promise g s lent r left
-  promised {r} h e = record { answers = sym (rule→outcome r h); leaves = rw (rule→outcome r h) e }
+  pub promised : {r : Traced} {left : List ℕ} → RuleOf g s lent (numbered r) → left ≡ wordsAfter (numbered r) (intervalsOf g s) lent → Promise g s lent r left
+  promised {r} h e = record { answers = sym (by-rule r h); leaves = rw (by-rule r h) e }
 
 module _ {g : Gate} {s : List Float} {lent : List ℕ} {r : Traced} {left : List ℕ} (p : Promise g s lent r left) where
-  -- the answer has the number and value of a case exactly when that case's rule holds
-  pub exactly : (q : Traced) → (numbered r ≡ numbered q) ↔ RuleOf g s lent q
-  exactly q = (λ e. outcome→rule g s lent q (sym (p .answers) ∙ e), λ h. p .answers ∙ rule→outcome g s lent q h)
-
   -- a call that is turned away, under whichever number, has written nothing
   pub untouched : (k : ℕ) → numbered r ≡ turnedAway k → left ≡ lent
   untouched k e = p .leaves ∙ rw (sym (p .answers) ∙ e)
 
-  -- 33: "more than 16,384 samples"
-  pub exactly-33 : (numbered r ≡ turnedAway 33) ↔ (tooManySamples s ≡ true)
-  exactly-33 = exactly TooManySamples
-
-  -- 34: "gate not good", where 33 does not apply
-  pub exactly-34 : (numbered r ≡ turnedAway 34) ↔ ((tooManySamples s ≡ false) × (gateNotGood g ≡ true))
-  exactly-34 = exactly BadGate
-
-  -- 32: "lent words .. under samples + 1", where neither applies
-  pub exactly-32 : (numbered r ≡ turnedAway 32)
-      ↔ ((tooManySamples s ≡ false) × (gateNotGood g ≡ false) × (tooFewWords s lent ≡ true))
-  exactly-32 = exactly TooFewWords
-
-  -- 35: "some sample unusable", where none of them applies
-  pub exactly-35 : (numbered r ≡ turnedAway 35)
-      ↔ ((tooManySamples s ≡ false) × (gateNotGood g ≡ false) × (tooFewWords s lent ≡ false) × (sampleUnusable g s ≡ true))
-  exactly-35 = exactly UnusableSample
+  -- Each refusal, 33, 34, 32 and 35, comes exactly when its rule is the first of `rules` to hold, and leaves the words as
+  -- they were.
+  pub exactly : (k : ℕ) → 0 < k → TurnedAway (numbered r) (turnedAway k) (FirstToHold k (rules g s lent)) (left ≡ lent)
+  exactly k h =
+      let law = refused g s lent k h in
+      record { exactly = (λ e. law .0 (sym (p .answers) ∙ e), λ f. p .answers ∙ law .1 f); unchanged = λ f. untouched k (p .answers ∙ law .1 f) }
 
   -- n intervals are written exactly when no rule holds and the trace has n of them
-  pub exactly-written : (n : ℕ) → (numbered r ≡ wrote n)
-      ↔ ((tooManySamples s ≡ false) × (gateNotGood g ≡ false) × (tooFewWords s lent ≡ false) × (sampleUnusable g s ≡ false) × (n ≡ length (intervalsOf g s)))
-  exactly-written n = exactly (Intervals n)
+  pub exactly-written : (n : ℕ) → (numbered r ≡ wrote n) ↔ (NoneHolds (rules g s lent) × (n ≡ length (intervalsOf g s)))
+  exactly-written n = (λ e. written-is g s lent n .0 (sym (p .answers) ∙ e), λ h. p .answers ∙ written-is g s lent n .1 h)
 
   -- and then they stand first in the lent words, and the rest is as it was
   pub written : (n : ℕ) → numbered r ≡ wrote n → left ≡ intervalsOf g s ++ drop n lent

@@ -1,29 +1,23 @@
 -- The intervals say what the judged samples say, sample by sample: laid out again, each for as long as it lasts and the levels
 -- alternating from passive, they are the levels of the trace, and no other intervals are. Laws, with the definition of laying
 -- out.
-use Prim.Native.Nat.{ℕ, zero, suc, _+_, _<_}
+use Prim.Native.Nat.{ℕ, zero, suc, _+_}
 use mathlib.Core.Path.{_≡_, refl, sym, ap, _∙_}
 use mathlib.Core.Bool.{Bool, true, false, not}
 use mathlib.Core.List.{List, [], _∷_, _++_}
 use native.Mathlib.Omega.{arith}
-use native.Mathlib.Nat.{add-assoc, add-zero, zero-add}
+use native.Mathlib.Nat.{add-zero, zero-add}
 use lib.Ieee.{Float}
-use lib.ListN.{length, getD, take, replicate, length-replicate, getD-replicate, List·getD-append}
-use lib.Seq.{getD-append-add}
+use lib.ListN.{length, replicate}
 use Rattle.volts.specs.Levels.{judgements, levels}
 use Rattle.volts.specs.Intervals.{runs, widths, intervalsOf}
-use Rattle.volts.specs.IntervalLaws.{total, later, AtLeastOne, levels-length}
+use Rattle.volts.specs.IntervalLaws.{later, AtLeastOne, levels-length}
 use Rattle.volts.specs.declared.Gate.{Gate}
 
 -- the level at each sample, where the first interval is at the level given and the levels alternate from there
 abbrev pub laidOut : Bool → List ℕ → List Bool
 laidOut level [] = []
 laidOut level (w ∷ ws) = replicate w level ++ laidOut (not level) ws
-
--- the level of the interval at a place, where the one at place 0 has the level given: "Levels alternate"
-abbrev pub levelAt : Bool → ℕ → Bool
-levelAt level zero = level
-levelAt level (suc k) = levelAt (not level) k
 
 replicate-push : (n : ℕ) (a : Bool) (bs : List Bool) → replicate n a ++ (a ∷ bs) ≡ a ∷ (replicate n a ++ bs)
 replicate-push zero a bs = refl
@@ -43,22 +37,6 @@ laid-widths (b ∷ bs) = laid-runs false 0 (b ∷ bs)
 -- laid out from passive, the intervals are the levels of the judged samples
 pub says-levels : (g : Gate) (s : List Float) → laidOut false (intervalsOf g s) ≡ levels (judgements g s)
 says-levels g s = laid-widths (levels (judgements g s))
-
-laid-at : (a : Bool) (ws : List ℕ) (k j : ℕ) → j < getD ws k 0 → getD (laidOut a ws) (total (take k ws) + j) false ≡ levelAt a k
-laid-at a [] k j h = absurd (omega arith)
-laid-at a (w ∷ ws) zero j h =
-    let within : j < length (replicate w a) = rw (length-replicate w a) h in
-    rw (zero-add, List·getD-append (replicate w a) (laidOut (not a) ws) false j within, getD-replicate w j a false h)
-laid-at a (w ∷ ws) (suc k) j h =
-    rw (add-assoc, past w a (laidOut (not a) ws)) (laid-at (not a) ws k j h)
-  where
-    past : (n : ℕ) (b : Bool) (bs : List Bool) (m : ℕ) → getD (replicate n b ++ bs) (n + m) false ≡ getD bs m false
-    past n b bs m = rw (length-replicate n b) at (getD-append-add (replicate n b) bs m false)
-
--- every sample inside the interval at place k has that place's level: passive at even places, active at odd ones
-pub alternates : (g : Gate) (s : List Float) (k j : ℕ) → j < getD (intervalsOf g s) k 0
-    → getD (levels (judgements g s)) (total (take k (intervalsOf g s)) + j) false ≡ levelAt false k
-alternates g s k j h = rw (says-levels g s) at (laid-at false (intervalsOf g s) k j h)
 
 runs-grow : (a : Bool) (r n : ℕ) (bs : List Bool) → runs a r (replicate n a ++ bs) ≡ runs a (r + n) bs
 runs-grow a r zero bs = rw add-zero

@@ -1,6 +1,6 @@
 -- What document 01 says of the intervals, "From volts to intervals", shown of the definition. Laws, with the two small
 -- definitions that they speak of.
-use Prim.Native.Nat.{ℕ, suc, _+_, _≤_, _<_}
+use Prim.Native.Nat.{ℕ, suc, _+_, _≤_}
 use mathlib.Core.Path.{_≡_, refl, ap, _∙_}
 use mathlib.Core.Bool.{Bool, true, false}
 use mathlib.Core.List.{List, [], _∷_}
@@ -78,19 +78,14 @@ later-at-least-one g s = widths-later (levels (judgements g s))
 pub no-samples : (g : Gate) → intervalsOf g [] ≡ []
 no-samples g = refl
 
-runs-some : (a : Bool) (r : ℕ) (bs : List Bool) → (1 ≤ length (runs a r bs)) × (length (runs a r bs) ≤ length bs + 1)
-runs-some a r [] = omega arith
-runs-some true r (true ∷ bs) = omega (arith, runs-some true (suc r) bs)
-runs-some true r (false ∷ bs) = omega (arith, runs-some false 1 bs)
-runs-some false r (false ∷ bs) = omega (arith, runs-some false (suc r) bs)
-runs-some false r (true ∷ bs) = omega (arith, runs-some true 1 bs)
-
--- some samples give some intervals
-pub some-samples : (g : Gate) (s : List Float) → 0 < length s → 1 ≤ length (intervalsOf g s)
-some-samples g [] h = absurd (omega arith)
-some-samples g (x ∷ xs) h = runs-some false 0 (levels (judgements g (x ∷ xs))) .0
+runs-few : (a : Bool) (r : ℕ) (bs : List Bool) → length (runs a r bs) ≤ length bs + 1
+runs-few a r [] = omega arith
+runs-few true r (true ∷ bs) = omega (arith, runs-few true (suc r) bs)
+runs-few true r (false ∷ bs) = omega (arith, runs-few false 1 bs)
+runs-few false r (false ∷ bs) = omega (arith, runs-few false (suc r) bs)
+runs-few false r (true ∷ bs) = omega (arith, runs-few true 1 bs)
 
 -- the words that the call asks for, one more than the samples, are enough
 pub words-enough : (g : Gate) (s : List Float) → length (intervalsOf g s) ≤ length s + 1
 words-enough g [] = omega arith
-words-enough g (x ∷ xs) = omega (arith, runs-some false 0 (levels (judgements g (x ∷ xs))), levels-length g (x ∷ xs))
+words-enough g (x ∷ xs) = omega (arith, runs-few false 0 (levels (judgements g (x ∷ xs))), levels-length g (x ∷ xs))

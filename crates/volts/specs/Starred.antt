@@ -10,7 +10,7 @@ use lib.IntN.{pos, negsuc}
 use lib.ListN.{replicate}
 use Rattle.volts.specs.Judging.{isFinite, goodGate, against, judged}
 use Rattle.volts.specs.Intervals.{intervalsOf}
-use Rattle.volts.specs.Tracing.{wrote, tooManySamples, gateNotGood, tooFewWords, sampleUnusable, outcome}
+use Rattle.volts.specs.Tracing.{wrote, sampleUnusable, outcome}
 use Rattle.volts.specs.declared.Gate.{Gate}
 
 -- a whole number of volts, as an f32
@@ -52,5 +52,5 @@ starred-trace = rw starred-intervals
 
 -- six lent words, one more than the samples, are enough for it
 pub starred-outcome : outcome usualGate starredSamples (replicate 6 0) ≡ wrote 3
-unfolding outcome tooManySamples gateNotGood goodGate tooFewWords sampleUnusable judged against isFinite ofInt sub add neg sum round size units odd span climb lt le eq trailingZeros
+unfolding outcome goodGate sampleUnusable judged against isFinite ofInt sub add neg sum round size units odd span climb lt le eq trailingZeros
 starred-outcome = refl

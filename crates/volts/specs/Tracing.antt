@@ -2,11 +2,13 @@
 -- call is turned away". Definitions only.
 use Prim.Native.Nat.{ℕ, _+_}
 use mathlib.Core.Path.{_≡_}
-use mathlib.Core.Bool.{Bool, cond, not}
-use mathlib.Core.List.{List, _++_}
-use lib.Dec.{ltb}
+use mathlib.Core.Bool.{Bool, cond}
+use mathlib.Core.List.{List, [], _∷_, _++_}
+use lib.Dec.{eqb}
 use lib.Ieee.{Float}
 use lib.ListN.{length, drop}
+use Rattle.laws.specs.Meant.{Test, set, unset, below}
+use Rattle.laws.specs.Rules.{Rule, rule, firstRule}
 use Rattle.volts.specs.Judging.{goodGate}
 use Rattle.volts.specs.Levels.{judgements, someUnusable}
 use Rattle.volts.specs.Intervals.{intervalsOf}
@@ -32,31 +34,38 @@ abbrev pub mostSamples : ℕ
 mostSamples = 16384
 
 -- 33: "more than 16,384 samples"
-unfoldable pub tooManySamples : List Float → Bool
-tooManySamples s = ltb mostSamples (length s)
+abbrev pub tooManySamples : List Float → Test
+tooManySamples s = below mostSamples (length s)
 
 -- 34: "gate not good"
-unfoldable pub gateNotGood : Gate → Bool
-gateNotGood g = not (goodGate g)
+abbrev pub gateNotGood : Gate → Test
+gateNotGood g = unset (goodGate g)
 
 -- 32: "lent words under .. samples + 1"
-unfoldable pub tooFewWords : List Float → List ℕ → Bool
-tooFewWords s lent = ltb (length lent) (length s + 1)
+abbrev pub tooFewWords : List Float → List ℕ → Test
+tooFewWords s lent = below (length lent) (length s + 1)
 
 -- 35: "some sample unusable"
 unfoldable pub sampleUnusable : Gate → List Float → Bool
 sampleUnusable g s = someUnusable (judgements g s)
 
--- "Where several apply: .. volts 33, 34, 32, 35". The arguments say of each rule, in this order, whether it holds; the last
--- is the number of intervals, which is the answer where none does.
-abbrev pub firstRefusal : Bool → Bool → Bool → Bool → ℕ → Outcome
-firstRefusal r33 r34 r32 r35 n =
-    cond r33 (turnedAway 33) (cond r34 (turnedAway 34) (cond r32 (turnedAway 32) (cond r35 (turnedAway 35) (wrote n))))
+-- "Where several apply: .. volts 33, 34, 32, 35"
+abbrev pub rules : Gate → List Float → List ℕ → List Rule
+rules g s lent =
+    rule 33 (tooManySamples s)
+    ∷ rule 34 (gateNotGood g)
+    ∷ rule 32 (tooFewWords s lent)
+    ∷ rule 35 (set (sampleUnusable g s))
+    ∷ []
+
+-- what a call says, of the number of the first rule that holds and of the number of intervals, which is the answer where none
+-- does
+abbrev pub outcomeBy : ℕ → ℕ → Outcome
+outcomeBy number n = cond (eqb number 0) (wrote n) (turnedAway number)
 
 -- the outcome of a call with this gate, these samples and these lent words
 unfoldable pub outcome : Gate → List Float → List ℕ → Outcome
-outcome g s lent =
-    firstRefusal (tooManySamples s) (gateNotGood g) (tooFewWords s lent) (sampleUnusable g s) (length (intervalsOf g s))
+outcome g s lent = outcomeBy (firstRule (rules g s lent)) (length (intervalsOf g s))
 
 -- "The answer is their number; words past them are unchanged." A call that is turned away changes none.
 abbrev pub wordsAfter : Outcome → List ℕ → List ℕ → List ℕ

@@ -3,12 +3,13 @@
 use mathlib.Core.Path.{refl, sym, _∙_}
 use borrow.Author.Needs.{needs}
 use Rattle.volts.specs.ExactlyWhen.{promised}
-use Rattle.volts.proofs.Rules.{too-many, not-too-many, too-few, not-too-few, gate-test, none}
+use Rattle.volts.proofs.Finiteness.{said-no}
+use Rattle.volts.proofs.Rules.{not-above, too-few, not-too-few, gate-good, none-holds, none}
 use Rattle.volts.proofs.intervals.Statement.{statement}
 use Rattle.volts.proofs.intervals.Tie as tie
 
 returns : tie.Need-returns
-returns c = promised _ _ _ (too-many _ (c .if1 .taken)) refl
+returns c = promised _ _ _ (c .if1 .taken) refl
 
 good-gate-requires : tie.Need-good-gate-requires
 good-gate-requires c κs = search needs
@@ -16,12 +17,12 @@ good-gate-requires c κs = search needs
 returns-2 : tie.Need-returns-2
 returns-2 c =
     let gate = c .before in
-    promised _ _ _ (not-too-many _ (gate .before .if1 .left), gate-test _ (gate .good-gate .ensures) (c .if2 .taken)) refl
+    promised _ _ _ (not-above (gate .before .if1 .left), said-no (gate .good-gate .ensures) (c .if2 .taken)) refl
 
 returns-3 : tie.Need-returns-3
 returns-3 c =
     let gate = c .before .before in
-    promised _ _ _ (not-too-many _ (gate .before .if1 .left), gate-test _ (gate .good-gate .ensures) (c .before .if2 .left), too-few _ _ (c .if3 .taken)) refl
+    promised _ _ _ (not-above (gate .before .if1 .left), (gate-good (gate .good-gate .ensures) (c .before .if2 .left), too-few (c .if3 .taken))) refl
 
 some-unusable-requires : tie.Need-some-unusable-requires
 some-unusable-requires c κs = search needs
@@ -31,10 +32,14 @@ returns-4 c =
     let scan = c .before in
     let gate = scan .before .before .before in
     promised _ _ _ (
-      not-too-many _ (gate .before .if1 .left),
-      gate-test _ (gate .good-gate .ensures) (scan .before .before .if2 .left),
-      not-too-few _ _ (scan .before .if3 .left),
-      sym (scan .some-unusable .ensures) ∙ c .if4 .taken,
+      not-above (gate .before .if1 .left),
+      (
+        gate-good (gate .good-gate .ensures) (scan .before .before .if2 .left),
+        (
+          not-too-few (scan .before .if3 .left),
+          sym (scan .some-unusable .ensures) ∙ c .if4 .taken,
+        ),
+      ),
     ) refl
 
 returns-5 : tie.Need-returns-5
@@ -44,10 +49,7 @@ returns-5 c =
     let args = gate .before .before .before .before .args in
     let empty = none (args .gate) (args .samples .now) (c .if5 .taken) in
     promised _ _ _ (
-      not-too-many _ (gate .before .if1 .left),
-      gate-test _ (gate .good-gate .ensures) (scan .before .before .if2 .left),
-      not-too-few _ _ (scan .before .if3 .left),
-      sym (scan .some-unusable .ensures) ∙ c .before .if4 .left,
+      none-holds (args .gate) (args .samples .now) (args .words .now) (gate .before .if1 .left) (gate .good-gate .ensures) (scan .before .before .if2 .left) (scan .before .if3 .left) (scan .some-unusable .ensures) (c .before .if4 .left),
       rw empty,
     ) (rw empty)
 
@@ -64,11 +66,9 @@ returns-6 c =
     let written = c .before .before in
     let scan = written .before .before .before .before in
     let gate = scan .before .before .before in
+    let args = gate .before .before .before .before .args in
     promised _ _ _ (
-      not-too-many _ (gate .before .if1 .left),
-      gate-test _ (gate .good-gate .ensures) (scan .before .before .if2 .left),
-      not-too-few _ _ (scan .before .if3 .left),
-      sym (scan .some-unusable .ensures) ∙ written .before .before .before .if4 .left,
+      none-holds (args .gate) (args .samples .now) (args .words .now) (gate .before .if1 .left) (gate .good-gate .ensures) (scan .before .before .if2 .left) (scan .before .if3 .left) (scan .some-unusable .ensures) (written .before .before .before .if4 .left),
       written .write-intervals .ensures .0,
     ) (written .write-intervals .ensures .1)
 
