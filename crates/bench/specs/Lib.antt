@@ -13,7 +13,6 @@ pub mod ContestLaws
 pub mod RowLaws
 pub mod Difference
 pub mod Places
-pub mod Refusals
 pub mod Taken
 pub mod Fates
 pub mod RowShows

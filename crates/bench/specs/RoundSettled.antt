@@ -1,22 +1,21 @@
 -- A round is settled: its promise leaves one answer, one row and one state of the lent words, and each refusal comes exactly
 -- when document 01 says so, with the row and the words as they were.
-use Prim.Native.Nat.{ℕ, _≤_}
+use Prim.Native.Nat.{ℕ, _<_}
 use mathlib.Core.Path.{_≡_, refl, sym, ap, _∙_}
 use mathlib.Core.Bool.{Bool, true, false, cond}
-use mathlib.Core.List.{List, [], _∷_}
+use mathlib.Core.List.{List}
 use native.Mathlib.Omega.{arith}
 use lib.Dec.{eqb}
-use lib.ListN.{take}
 use borrow.Author.Tests.{ne-eqb, eqb-true}
 use Rattle.laws.specs.Settled.{settled}
+use Rattle.laws.specs.Rules.{FirstToHold, TurnedAway}
+use Rattle.laws.specs.RuleLaws.{refuses}
 use Rattle.bench.specs.declared.Station.{Station}
 use Rattle.bench.specs.declared.RoundTold.{RoundTold}
 use Rattle.bench.specs.declared.RoundAnswer.{RoundAnswer}
 use Rattle.bench.specs.Contest.{roundOf}
-use Rattle.bench.specs.Calls.{round, rowSize, unsoundStation, fewWords, nobodyWaiting, numberOf, taken, lentAfter}
+use Rattle.bench.specs.Calls.{round, rulesFor, numberOf, taken, lentAfter}
 use Rattle.bench.specs.Promises.{toldNumber, RoundSaid, said, played, turnedAway, roundSays, RoundPromise}
-use Rattle.bench.specs.Refusals.{TurnedAway, rulesOf, Alone, alone, stops-at}
-use Rattle.bench.specs.Taken.{rulesFor, ruleAt, number-is}
 use Rattle.bench.specs.RowSettled.{turned-away}
 
 -- ## One answer, one row, one state of the words
@@ -76,7 +75,7 @@ module _ {entry exit : List Station} {lentEntry lentExit : List ℕ} {a : RoundA
   its-number : toldNumber (a .told) ≡ numberOf (round lentEntry) entry
   its-number = ap (λ (r : RoundSaid). r .number) (p .says-it) ∙ says-number entry lentEntry
 
-  as-it-was : (n : ℕ) → 1 ≤ n → numberOf (round lentEntry) entry ≡ n → AsItWas n entry exit lentEntry lentExit a
+  as-it-was : (n : ℕ) → 0 < n → numberOf (round lentEntry) entry ≡ n → AsItWas n entry exit lentEntry lentExit a
   unfolding lentAfter roundSays taken
   as-it-was n h e =
       let z : eqb (numberOf (round lentEntry) entry) 0 ≡ false = ne-eqb (numberOf (round lentEntry) entry) 0 (λ q. omega arith) in
@@ -86,27 +85,8 @@ module _ {entry exit : List Station} {lentEntry lentExit : List ℕ} {a : RoundA
         answer = p .says-it ∙ rw (z, e);
       }
 
-  refusal : (k : ℕ) → 1 ≤ ruleAt (round lentEntry) entry k .number → Alone (rulesFor (round lentEntry) entry) k
-      → TurnedAway (toldNumber (a .told)) (ruleAt (round lentEntry) entry k .number) (rulesOf (take k (rulesFor (round lentEntry) entry)))
-      (ruleAt (round lentEntry) entry k .holds) (AsItWas (ruleAt (round lentEntry) entry k .number) entry exit lentEntry lentExit a)
-  refusal k l h =
-      record {
-        exactly = rw (its-number, number-is (round lentEntry) entry) (stops-at (rulesFor (round lentEntry) entry) k h);
-        unchanged = λ q. as-it-was (ruleAt (round lentEntry) entry k .number) l (sym its-number ∙ q);
-      }
-
-  -- 38: "row of 0 or over 32 stations"
-  pub round-38 : TurnedAway (toldNumber (a .told)) 38 [] (rowSize entry) (AsItWas 38 entry exit lentEntry lentExit a)
-  round-38 = refusal 0 (omega arith) (alone refl refl refl)
-
-  -- 39: "a station in the row with a stored length over 11 or a bad clock"
-  pub round-39 : TurnedAway (toldNumber (a .told)) 39 (rowSize entry ∷ []) (unsoundStation entry) (AsItWas 39 entry exit lentEntry lentExit a)
-  round-39 = refusal 1 (omega arith) (alone refl refl refl)
-
-  -- 32: "lent words under 101"
-  pub round-32 : TurnedAway (toldNumber (a .told)) 32 (rowSize entry ∷ unsoundStation entry ∷ []) (fewWords lentEntry) (AsItWas 32 entry exit lentEntry lentExit a)
-  round-32 = refusal 2 (omega arith) (alone refl refl refl)
-
-  -- 42: "nobody waiting"
-  pub round-42 : TurnedAway (toldNumber (a .told)) 42 (rowSize entry ∷ unsoundStation entry ∷ fewWords lentEntry ∷ []) (nobodyWaiting entry) (AsItWas 42 entry exit lentEntry lentExit a)
-  round-42 = refusal 3 (omega arith) (alone refl refl refl)
+  -- 38, 39, 32 and 42, each exactly when its rule is the first of the round's rules to hold, and then all is as it was.
+  pub round-exactly : (n : ℕ) → 0 < n
+      → TurnedAway (toldNumber (a .told)) n (FirstToHold n (rulesFor (round lentEntry) entry)) (AsItWas n entry exit lentEntry lentExit a)
+  unfolding numberOf
+  round-exactly n h = refuses n (rulesFor (round lentEntry) entry) h refl its-number (λ q. as-it-was n h (sym its-number ∙ q))

@@ -1,21 +1,22 @@
 -- Loading, withdrawing and setting a clock are settled: each promise leaves one answer and one row, and each refusal comes
 -- exactly when document 01 says so, with the row as it was.
-use Prim.Native.Nat.{ℕ, _≤_}
+use Prim.Native.Nat.{ℕ, _<_}
 use mathlib.Core.Path.{_≡_, refl, sym, ap, _∙_}
 use mathlib.Core.Bool.{cond}
-use mathlib.Core.List.{List, [], _∷_}
+use mathlib.Core.List.{List}
 use native.Mathlib.Omega.{arith}
 use lib.Dec.{eqb}
-use lib.ListN.{take}
+use lib.ListN.{length}
 use borrow.Author.Tests.{ne-eqb}
 use Rattle.laws.specs.Settled.{settled}
+use Rattle.laws.specs.Rules.{FirstToHold, TurnedAway}
+use Rattle.laws.specs.RuleLaws.{refuses}
 use Rattle.symbol.specs.declared.Clock.{Clock}
 use Rattle.bench.specs.declared.Station.{Station}
 use Rattle.bench.specs.declared.Called.{Called}
-use Rattle.bench.specs.Calls.{Call, load, withdraw, setClock, rowSize, unsoundStation, noStation, badMessage, badClock, holding, nothingToWithdraw, numberOf, taken, after}
+use Rattle.bench.specs.Calls.{Call, load, withdraw, setClock, rulesFor, numberOf, taken, after}
 use Rattle.bench.specs.Promises.{calledNumber, LoadPromise, WithdrawPromise, ClockPromise}
-use Rattle.bench.specs.Refusals.{TurnedAway, rulesOf, Alone, alone, stops-at}
-use Rattle.bench.specs.Taken.{rulesFor, ruleAt, number-is}
+use Rattle.bench.specs.Taken.{rules-apart}
 
 -- ## One answer, one row
 
@@ -62,71 +63,27 @@ clock-settled {a} {b} p q = (called-once a b (settled (p .answers-it) (q .answer
 -- ## The refusals
 
 -- A call that is turned away leaves the row as it was.
-pub turned-away : (c : Call) (row : List Station) (n : ℕ) → 1 ≤ n → numberOf c row ≡ n → after c row ≡ row
+pub turned-away : (c : Call) (row : List Station) (n : ℕ) → 0 < n → numberOf c row ≡ n → after c row ≡ row
 unfolding after taken
 turned-away c row n h e = rw (ne-eqb (numberOf c row) 0 (λ z. omega arith))
 
--- the rule at a place of the call's list turns it away, exactly when it holds and none before it does
-refusal : (c : Call) (k : ℕ) {answered : ℕ} {entry exit : List Station} → answered ≡ numberOf c entry → exit ≡ after c entry
-    → 1 ≤ ruleAt c entry k .number → Alone (rulesFor c entry) k
-    → TurnedAway answered (ruleAt c entry k .number) (rulesOf (take k (rulesFor c entry))) (ruleAt c entry k .holds) (exit ≡ entry)
-refusal c k {answered} {entry} {exit} a x l h =
-    record {
-      exactly = rw (a, number-is c entry) (stops-at (rulesFor c entry) k h);
-      unchanged = λ q. x ∙ turned-away c entry (ruleAt c entry k .number) l (sym a ∙ q);
-    }
+-- Each refusal of a call comes exactly when its rule is the first of the call's rules to hold, and then the row is as it was.
+refusal : (c : Call) (n : ℕ) → 0 < n → {answered : ℕ} {entry exit : List Station} → answered ≡ numberOf c entry → exit ≡ after c entry
+    → TurnedAway answered n (FirstToHold n (rulesFor c entry)) (exit ≡ entry)
+unfolding numberOf
+refusal c n h {entry = entry} a x = refuses n (rulesFor c entry) h (rules-apart c (length entry) entry) a (λ q. x ∙ turned-away c entry n h (sym a ∙ q))
 
-module _ {i : ℕ} {m : List ℕ} {entry exit : List Station} {a : Called} (p : LoadPromise i m entry exit a) where
-  -- 38: "row of 0 or over 32 stations"
-  pub load-38 : TurnedAway (calledNumber a) 38 [] (rowSize entry) (exit ≡ entry)
-  load-38 = refusal (load i m) 0 (p .answers-it) (p .leaves-it) (omega arith) (alone refl refl refl)
+-- Loading: 38, 39, 40, 37 and 41, each exactly when.
+pub load-exactly : {i : ℕ} {m : List ℕ} {entry exit : List Station} {a : Called} → LoadPromise i m entry exit a
+    → (n : ℕ) → 0 < n → TurnedAway (calledNumber a) n (FirstToHold n (rulesFor (load i m) entry)) (exit ≡ entry)
+load-exactly {i} {m} p n h = refusal (load i m) n h (p .answers-it) (p .leaves-it)
 
-  -- 39: "a station in the row with a stored length over 11 or a bad clock"
-  pub load-39 : TurnedAway (calledNumber a) 39 (rowSize entry ∷ []) (unsoundStation entry) (exit ≡ entry)
-  load-39 = refusal (load i m) 1 (p .answers-it) (p .leaves-it) (omega arith) (alone refl refl refl)
+-- Withdrawing: 38, 39, 40 and 42, each exactly when.
+pub withdraw-exactly : {i : ℕ} {entry exit : List Station} {a : Called} → WithdrawPromise i entry exit a
+    → (n : ℕ) → 0 < n → TurnedAway (calledNumber a) n (FirstToHold n (rulesFor (withdraw i) entry)) (exit ≡ entry)
+withdraw-exactly {i} p n h = refusal (withdraw i) n h (p .answers-it) (p .leaves-it)
 
-  -- 40: "no such station"
-  pub load-40 : TurnedAway (calledNumber a) 40 (rowSize entry ∷ unsoundStation entry ∷ []) (noStation entry i) (exit ≡ entry)
-  load-40 = refusal (load i m) 2 (p .answers-it) (p .leaves-it) (omega arith) (alone refl refl refl)
-
-  -- 37: "message empty .., or more than 12 bytes with checks"
-  pub load-37 : TurnedAway (calledNumber a) 37 (rowSize entry ∷ unsoundStation entry ∷ noStation entry i ∷ []) (badMessage m) (exit ≡ entry)
-  load-37 = refusal (load i m) 3 (p .answers-it) (p .leaves-it) (omega arith) (alone refl refl refl)
-
-  -- 41: "that station already holds a message"
-  pub load-41 : TurnedAway (calledNumber a) 41 (rowSize entry ∷ unsoundStation entry ∷ noStation entry i ∷ badMessage m ∷ []) (holding entry i) (exit ≡ entry)
-  load-41 = refusal (load i m) 4 (p .answers-it) (p .leaves-it) (omega arith) (alone refl refl refl)
-
-module _ {i : ℕ} {entry exit : List Station} {a : Called} (p : WithdrawPromise i entry exit a) where
-  -- 38: "row of 0 or over 32 stations"
-  pub withdraw-38 : TurnedAway (calledNumber a) 38 [] (rowSize entry) (exit ≡ entry)
-  withdraw-38 = refusal (withdraw i) 0 (p .answers-it) (p .leaves-it) (omega arith) (alone refl refl refl)
-
-  -- 39: "a station in the row with a stored length over 11 or a bad clock"
-  pub withdraw-39 : TurnedAway (calledNumber a) 39 (rowSize entry ∷ []) (unsoundStation entry) (exit ≡ entry)
-  withdraw-39 = refusal (withdraw i) 1 (p .answers-it) (p .leaves-it) (omega arith) (alone refl refl refl)
-
-  -- 40: "no such station"
-  pub withdraw-40 : TurnedAway (calledNumber a) 40 (rowSize entry ∷ unsoundStation entry ∷ []) (noStation entry i) (exit ≡ entry)
-  withdraw-40 = refusal (withdraw i) 2 (p .answers-it) (p .leaves-it) (omega arith) (alone refl refl refl)
-
-  -- 42: "nothing to withdraw"
-  pub withdraw-42 : TurnedAway (calledNumber a) 42 (rowSize entry ∷ unsoundStation entry ∷ noStation entry i ∷ []) (nothingToWithdraw entry i) (exit ≡ entry)
-  withdraw-42 = refusal (withdraw i) 3 (p .answers-it) (p .leaves-it) (omega arith) (alone refl refl refl)
-
-module _ {i : ℕ} {c : Clock} {entry exit : List Station} {a : Called} (p : ClockPromise i c entry exit a) where
-  -- 38: "row of 0 or over 32 stations"
-  pub clock-38 : TurnedAway (calledNumber a) 38 [] (rowSize entry) (exit ≡ entry)
-  clock-38 = refusal (setClock i c) 0 (p .answers-it) (p .leaves-it) (omega arith) (alone refl refl refl)
-
-  -- 39: "a station in the row with a stored length over 11 or a bad clock"
-  pub clock-39 : TurnedAway (calledNumber a) 39 (rowSize entry ∷ []) (unsoundStation entry) (exit ≡ entry)
-  clock-39 = refusal (setClock i c) 1 (p .answers-it) (p .leaves-it) (omega arith) (alone refl refl refl)
-
-  -- 40: "no such station"
-  pub clock-40 : TurnedAway (calledNumber a) 40 (rowSize entry ∷ unsoundStation entry ∷ []) (noStation entry i) (exit ≡ entry)
-  clock-40 = refusal (setClock i c) 2 (p .answers-it) (p .leaves-it) (omega arith) (alone refl refl refl)
-
-  -- 36: "clock outside the sending windows"
-  pub clock-36 : TurnedAway (calledNumber a) 36 (rowSize entry ∷ unsoundStation entry ∷ noStation entry i ∷ []) (badClock c) (exit ≡ entry)
-  clock-36 = refusal (setClock i c) 3 (p .answers-it) (p .leaves-it) (omega arith) (alone refl refl refl)
+-- Setting a clock: 38, 39, 40 and 36, each exactly when.
+pub clock-exactly : {i : ℕ} {c : Clock} {entry exit : List Station} {a : Called} → ClockPromise i c entry exit a
+    → (n : ℕ) → 0 < n → TurnedAway (calledNumber a) n (FirstToHold n (rulesFor (setClock i c) entry)) (exit ≡ entry)
+clock-exactly {i} {c} p n h = refusal (setClock i c) n h (p .answers-it) (p .leaves-it)

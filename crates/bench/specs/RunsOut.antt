@@ -1,17 +1,16 @@
 -- Demand 3 with nothing left to suppose: load a message, then only run rounds with 101 words lent, and it goes out in round A + 1.
 use Prim.Native.Nat.{ℕ, zero, suc, _+_, _≤_}
 use mathlib.Core.Path.{_≡_, refl, sym, _∙_}
-use mathlib.Core.Logic.{_≢_}
+use mathlib.Core.Logic.{_≢_, ⊎-elim}
 use mathlib.Core.Bool.{Bool, true, false, cond, _&&_}
 use mathlib.Core.List.{List, [], _∷_}
 use native.Mathlib.Omega.{arith}
 use lib.ListN.{length, getD, replicate}
-use borrow.Author.Tests.{ne-eqb, le-ltb}
 use Rattle.laws.specs.Tests.{never}
 use Rattle.checkbyte.specs.Differ.{Bytes}
 use Rattle.frame.specs.Writing.{mostWords}
 use Rattle.bench.specs.declared.Station.{Station}
-use Rattle.bench.specs.Stations.{mostStations, Bits, bitsSent, empty}
+use Rattle.bench.specs.Stations.{Bits, bitsSent, empty}
 use Rattle.bench.specs.Order.{sameBits}
 use Rattle.bench.specs.Calls.{Call, load, round, allEmpty, taken, after}
 use Rattle.bench.specs.Histories.{afterAll, waiting, aheadIn, roundsIn, Undisturbed}
@@ -39,9 +38,10 @@ not-all-empty (s ∷ row) (suc i) e = go (empty s) (not-all-empty row i e)
 pub round-is-taken : (lent : List ℕ) (row : List Station) → RowPassed row → mostWords ≤ length lent → (s : ℕ) → getD (waiting row) s [] ≢ []
     → taken (round lent) row ≡ true
 round-is-taken lent row p w s n =
+    let somebody = not-all-empty row s (some-holder (stationAt row s) (λ e. n (waiting-at row s ∙ e))) in
     taken-when (round lent) row .1 (
-      rw (ne-eqb (length row) 0 (λ e. omega (arith, p .some)), le-ltb mostStations (length row) (p .few)) refl,
-      (rw (p .sound) refl, (le-ltb (length lent) mostWords w, (not-all-empty row s (some-holder (stationAt row s) (λ e. n (waiting-at row s ∙ e))), tt))),
+      ⊎-elim (λ e. omega (arith, p .some)) (λ l. omega (arith, p .few)),
+      (never (p .sound), (λ l. omega arith, (λ e. never e somebody, tt))),
     )
 
 -- and its row passes 38 and 39 again

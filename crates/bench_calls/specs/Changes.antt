@@ -1,16 +1,17 @@
 -- The calls at a place of a row by value: the number of the first rule that turns the call away, and the bench after it.
 use Prim.Native.Nat.{ℕ}
 use mathlib.Core.Path.{_≡_}
-use mathlib.Core.Bool.{cond, not, _||_}
+use mathlib.Core.Bool.{cond}
 use mathlib.Core.List.{List}
-use lib.Dec.{eqb, leb, ltb}
+use lib.Dec.{eqb}
 use lib.ListN.{getD, set}
+use Rattle.laws.specs.Rules.{firstRule}
 use Rattle.symbol.specs.declared.Clock.{Clock}
 use Rattle.bench.specs.declared.Station.{Station}
 use Rattle.bench.specs.declared.Called.the-variants.{Done}
-use Rattle.bench.specs.Stations.{mostStations, empty, blank}
+use Rattle.bench.specs.Stations.{blank}
 use Rattle.bench.specs.Contest.{emptied}
-use Rattle.bench.specs.Calls.{allSound, badMessage, badClock, refuse, loaded, clocked}
+use Rattle.bench.specs.Calls.{Call, allSound, placeRules, loadRules, withdrawRules, clockRules, rulesOn, loaded, clocked}
 use Rattle.bench.specs.Promises.{calledNumber}
 use Rattle.bench_row.specs.declared.Bench.{Bench}
 use Rattle.bench_calls.specs.declared.Changed.{Changed}
@@ -32,26 +33,19 @@ pub record ChangedBy (b : Bench) (number : ℕ) (next : Bench) (r : Changed) : T
 abbrev pub doneWith : Bench → ℕ → Station → Changed
 doneWith b i s = record { bench = withOf b i s; called = Done }
 
--- 38, 39 and 40, which every call at a place is held to first
-unfoldable pub rowNumber : Bench → ℕ → ℕ
-rowNumber b i =
-    refuse 38 (eqb (b .count) 0 || ltb mostStations (b .count))
-    (refuse 39 (not (allSound (b .at)))
-    (refuse 40 (leb (b .count) i) 0))
+-- the number of the first rule that turns a call away
+abbrev pub callNumber : Call → Bench → ℕ
+callNumber c b = firstRule (rulesOn c (b .count) (b .at))
 
--- the first number, or where it is 0 the later one
-abbrev pub andThen : ℕ → ℕ → ℕ
-andThen first later = cond (eqb first 0) later first
+-- that of 38, 39 and 40, which every call at a place is held to first
+unfoldable pub rowNumber : Bench → ℕ → ℕ
+rowNumber b i = firstRule (placeRules (b .count) (allSound (b .at)) i)
 
 -- ## Loading
 
--- 37 and 41, at a place that there is
-unfoldable pub loadRules : Bench → ℕ → List ℕ → ℕ
-loadRules b i m = refuse 37 (badMessage m) (refuse 41 (not (empty (stationOf b i))) 0)
-
--- all rules of loading
-abbrev pub loadNumber : Bench → ℕ → List ℕ → ℕ
-loadNumber b i m = andThen (rowNumber b i) (loadRules b i m)
+-- that of the later rules of loading, at a place that there is
+unfoldable pub loadAtNumber : Bench → ℕ → List ℕ → ℕ
+loadAtNumber b i m = firstRule (loadRules m (stationOf b i))
 
 -- the bench with the message loaded
 abbrev pub loadedBench : Bench → ℕ → List ℕ → Bench
@@ -59,13 +53,9 @@ loadedBench b i m = withOf b i (loaded m (stationOf b i))
 
 -- ## Withdrawing
 
--- 42, at a place that there is
-unfoldable pub withdrawRules : Bench → ℕ → ℕ
-withdrawRules b i = refuse 42 (empty (stationOf b i)) 0
-
--- all rules of withdrawing
-abbrev pub withdrawNumber : Bench → ℕ → ℕ
-withdrawNumber b i = andThen (rowNumber b i) (withdrawRules b i)
+-- that of the later rules of withdrawing
+unfoldable pub withdrawAtNumber : Bench → ℕ → ℕ
+withdrawAtNumber b i = firstRule (withdrawRules (stationOf b i))
 
 -- the bench with the message withdrawn
 abbrev pub withdrawnBench : Bench → ℕ → Bench
@@ -73,13 +63,9 @@ withdrawnBench b i = withOf b i (emptied (stationOf b i))
 
 -- ## Setting a clock
 
--- 36
-unfoldable pub clockRules : Clock → ℕ
-clockRules c = refuse 36 (badClock c) 0
-
--- all rules of setting a clock
-abbrev pub clockNumber : Bench → ℕ → Clock → ℕ
-clockNumber b i c = andThen (rowNumber b i) (clockRules c)
+-- that of the later rules of setting a clock
+unfoldable pub clockAtNumber : Clock → ℕ
+clockAtNumber c = firstRule (clockRules c)
 
 -- the bench with the clock set
 abbrev pub clockedBench : Bench → ℕ → Clock → Bench

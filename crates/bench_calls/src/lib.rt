@@ -9,7 +9,7 @@ ghost use Rattle.bench.specs.Stations.{mostStations, mostStored};
 ghost use Rattle.bench.specs.Calls as Calls;
 ghost use Rattle.bench.specs.Calls.{clocked};
 ghost use Rattle.bench.specs.Promises.{calledNumber};
-ghost use Rattle.bench_calls.specs.Changes.{withOf, rowNumber, doneWith, ChangedBy, loadRules, loadNumber, loadedBench, withdrawRules, withdrawNumber, withdrawnBench, clockRules, clockNumber, clockedBench};
+ghost use Rattle.bench_calls.specs.Changes.{withOf, callNumber, rowNumber, doneWith, ChangedBy, loadAtNumber, loadedBench, withdrawAtNumber, withdrawnBench, clockAtNumber, clockedBench};
 use bench::Called;
 use bench::Station;
 use bench_row::Bench;
@@ -58,7 +58,7 @@ fn is_done(called: Called) -> bool
 
 // Loads a message at a place.
 pub fn load_on(bench: Bench, place: usize, message: &[u8]) -> Changed
-    ensures { λ r. ⌜ ChangedBy bench (loadNumber bench place (now (message .entry))) (loadedBench bench place (now (message .entry))) r ⌝ }
+    ensures { λ r. ⌜ ChangedBy bench (callNumber (Calls.load place (now (message .entry))) bench) (loadedBench bench place (now (message .entry))) r ⌝ }
 {
     let called = row_call(bench, place);
     if is_done(called) {
@@ -70,7 +70,7 @@ pub fn load_on(bench: Bench, place: usize, message: &[u8]) -> Changed
 // The same at a place that there is.
 fn load_at(bench: Bench, place: usize, message: &[u8]) -> Changed
     requires { ⌜ place < mostStations ⌝ }
-    ensures { λ r. ⌜ ChangedBy bench (loadRules bench place (now (message .entry))) (loadedBench bench place (now (message .entry))) r ⌝ }
+    ensures { λ r. ⌜ ChangedBy bench (loadAtNumber bench place (now (message .entry))) (loadedBench bench place (now (message .entry))) r ⌝ }
 {
     let station = bench.at[place];
     let bad = bad_message(message.len());
@@ -150,7 +150,7 @@ fn with(bench: Bench, i: usize, station: Station) -> Bench
 
 // Withdraws the message at a place.
 pub fn withdraw_on(bench: Bench, place: usize) -> Changed
-    ensures { λ r. ⌜ ChangedBy bench (withdrawNumber bench place) (withdrawnBench bench place) r ⌝ }
+    ensures { λ r. ⌜ ChangedBy bench (callNumber (Calls.withdraw place) bench) (withdrawnBench bench place) r ⌝ }
 {
     let called = row_call(bench, place);
     if is_done(called) {
@@ -162,7 +162,7 @@ pub fn withdraw_on(bench: Bench, place: usize) -> Changed
 // The same at a place that there is.
 fn withdraw_at(bench: Bench, place: usize) -> Changed
     requires { ⌜ place < mostStations ⌝ }
-    ensures { λ r. ⌜ ChangedBy bench (withdrawRules bench place) (withdrawnBench bench place) r ⌝ }
+    ensures { λ r. ⌜ ChangedBy bench (withdrawAtNumber bench place) (withdrawnBench bench place) r ⌝ }
 {
     let station = bench.at[place];
     if station.len == 0 {
@@ -179,7 +179,7 @@ fn withdraw_at(bench: Bench, place: usize) -> Changed
 
 // Sets the clock at a place.
 pub fn set_clock_on(bench: Bench, place: usize, clock: Clock) -> Changed
-    ensures { λ r. ⌜ ChangedBy bench (clockNumber bench place clock) (clockedBench bench place clock) r ⌝ }
+    ensures { λ r. ⌜ ChangedBy bench (callNumber (Calls.setClock place clock) bench) (clockedBench bench place clock) r ⌝ }
 {
     let called = row_call(bench, place);
     if is_done(called) {
@@ -191,7 +191,7 @@ pub fn set_clock_on(bench: Bench, place: usize, clock: Clock) -> Changed
 // The same at a place that there is.
 fn set_clock_at(bench: Bench, place: usize, clock: Clock) -> Changed
     requires { ⌜ place < mostStations ⌝ }
-    ensures { λ r. ⌜ ChangedBy bench (clockRules clock) (clockedBench bench place clock) r ⌝ }
+    ensures { λ r. ⌜ ChangedBy bench (clockAtNumber clock) (clockedBench bench place clock) r ⌝ }
 {
     let station = bench.at[place];
     if symbol::good_clock(clock) {

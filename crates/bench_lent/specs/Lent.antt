@@ -2,23 +2,25 @@
 use Prim.Native.Nat.{ℕ, _-_, _≤_, _<_}
 use mathlib.Core.Path.{_≡_, refl, ap, _∙_}
 use mathlib.Core.Bool.{Bool, true, false, cond, not}
-use mathlib.Core.List.{List}
-use native.Mathlib.Omega.{arith}
-use lib.Dec.{eqb, leb, ltb}
+use mathlib.Core.List.{List, _++_}
+use lib.Dec.{eqb, ltb}
 use lib.ListN.{length, take, getD, set, replicate, length-set, List·getD-append}
 use lib.Seq.{take-set-lt, take-append-seam}
-use borrow.Author.Tests.{eqb-true, leb-false, ltb-false}
+use borrow.Author.Tests.{eqb-true, eq-eqb, leb-false, ltb-false}
 use Rattle.laws.specs.Tests.{neither}
+use Rattle.laws.specs.Rules.{Rule, firstRule}
+use Rattle.laws.specs.RuleLaws.{Agree, first-same}
 use Rattle.symbol.specs.declared.Clock.{Clock}
 use Rattle.bench.specs.declared.Station.{Station}
-use Rattle.bench.specs.Stations.{mostStations, blank}
+use Rattle.bench.specs.Stations.{mostStations, empty, blank}
 use Rattle.bench.specs.Contest.{emptied}
-use Rattle.bench.specs.Calls.{load, withdraw, setClock, rowSize, allSound, unsoundStation, noStation, badMessage, badClock, holding, nothingToWithdraw, allEmpty, refuse, numberOf, taken, loaded, clocked, at, done, after}
+use Rattle.bench.specs.Calls.{Call, load, withdraw, setClock, round, rowSize, allSound, allEmpty, placeRules, loadRules, withdrawRules, clockRules, rulesOn, rulesFor, numberOf, taken, loaded, clocked, done, after}
 use Rattle.bench.specs.Promises.{LoadPromise, WithdrawPromise, ClockPromise}
+use Rattle.bench.specs.Taken.{load-taken, withdraw-taken, clock-taken}
 use Rattle.bench_row.specs.declared.Bench.{Bench}
 use Rattle.bench_calls.specs.declared.Changed.{Changed}
 use Rattle.bench_row.specs.Benches.{benchOf}
-use Rattle.bench_calls.specs.Changes.{stationOf, withOf, ChangedBy, rowNumber, andThen, loadRules, loadNumber, loadedBench, withdrawRules, withdrawNumber, withdrawnBench, clockRules, clockNumber, clockedBench}
+use Rattle.bench_calls.specs.Changes.{stationOf, withOf, ChangedBy, callNumber, loadedBench, withdrawnBench, clockedBench}
 use Rattle.bench_lent.specs.Padding.{sound-pad, empty-pad}
 use Rattle.bench_lent.specs.Restoring.{padded, putBack, put-first, put-same}
 
@@ -36,49 +38,52 @@ module _ (row : List Station) (few : length row ≤ mostStations) where
   station-same : (i : ℕ) → i < length row → stationOf (benchOf row) i ≡ getD row i blank
   station-same i h = ap (λ (l : List Station). getD l i blank) (padded row few) ∙ List·getD-append row (replicate (mostStations - length row) blank) blank i h
 
-  first-same : take (length row) (benchOf row .at) ≡ row
-  first-same = ap (take (length row)) (padded row few) ∙ take-append-seam row (replicate (mostStations - length row) blank)
+  row-first : take (length row) (benchOf row .at) ≡ row
+  row-first = ap (take (length row)) (padded row few) ∙ take-append-seam row (replicate (mostStations - length row) blank)
 
   -- another station at a place of the row
   put-station : (i : ℕ) → i < length row → (s : Station) → putBack (withOf (benchOf row) i s) row ≡ set row i s
   unfolding withOf
   put-station i h s =
       put-first (withOf (benchOf row) i s) row (set row i s) (length-set row i s)
-      (take-set-lt (length row) (benchOf row .at) i s h ∙ ap (λ (l : List Station). set l i s) first-same)
+      (take-set-lt (length row) (benchOf row .at) i s h ∙ ap (λ (l : List Station). set l i s) row-first)
 
 -- A row that 38 does not turn away has at most 32 stations.
-pub few-of : (row : List Station) → rowSize row ≡ false → length row ≤ mostStations
+few-of : (row : List Station) → rowSize (length row) .says ≡ false → length row ≤ mostStations
 few-of row e = ltb-false mostStations (length row) (neither (eqb (length row) 0) (ltb mostStations (length row)) e .1)
 
+-- ## The rules
+
+module _ (row : List Station) where
+  -- 38, 39 and 40 are judged alike, and so are the later rules where the row is not too long and has the place
+  at-place : (i : ℕ) (later later′ : List Rule) → (length row ≤ mostStations → i < length row → Agree later later′)
+      → Agree (placeRules (length row) (allSound (benchOf row .at)) i ++ later) (placeRules (length row) (allSound row) i ++ later′)
+  at-place i later later′ same = (
+    refl,
+    refl,
+    λ s. (refl, ap not (sound-same row (few-of row s)), λ u. (refl, refl, λ p. same (few-of row s) (leb-false (length row) i p))),
+  )
+
+  agree : (c : Call) → Agree (rulesOn c (length row) (benchOf row .at)) (rulesFor c row)
+  agree (load i m) =
+      at-place i (loadRules m (stationOf (benchOf row) i)) (loadRules m (getD row i blank))
+      (λ few h. (refl, refl, λ u. (refl, ap (λ (s : Station). not (empty s)) (station-same row few i h), λ v. tt)))
+  agree (withdraw i) =
+      at-place i (withdrawRules (stationOf (benchOf row) i)) (withdrawRules (getD row i blank))
+      (λ few h. (refl, ap empty (station-same row few i h), λ v. tt))
+  agree (setClock i c) = at-place i (clockRules c) (clockRules c) (λ few h. (refl, refl, λ v. tt))
+  agree (round lent) = (
+    refl,
+    refl,
+    λ s. (refl, ap not (sound-same row (few-of row s)), λ u. (refl, refl, λ w. (refl, empty-same row (few-of row s), λ v. tt))),
+  )
+
+  -- The rules of a bench turn a call away as those of its row do.
+  pub same-number : (c : Call) → firstRule (rulesOn c (length row) (benchOf row .at)) ≡ numberOf c row
+  unfolding numberOf
+  same-number c = first-same (rulesOn c (length row) (benchOf row .at)) (rulesFor c row) (agree c)
+
 -- ## The calls at a place
-
--- the rules of the bench are those of the row
-numbers : (row : List Station) (i later later′ : ℕ) → (length row ≤ mostStations → i < length row → later ≡ later′)
-    → andThen (rowNumber (benchOf row) i) later ≡ refuse 38 (rowSize row) (refuse 39 (unsoundStation row) (refuse 40 (noStation row i) later′))
-unfolding rowNumber benchOf
-numbers row i later later′ same = go (rowSize row) refl
-  where
-    inner : (y z : Bool) → (z ≡ false → later ≡ later′) → andThen (refuse 39 y (refuse 40 z 0)) later ≡ refuse 39 y (refuse 40 z later′)
-    inner true z k = refl
-    inner false true k = refl
-    inner false false k = k refl
-
-    go : (x : Bool) → rowSize row ≡ x → andThen (refuse 38 x (refuse 39 (not (allSound (benchOf row .at))) (refuse 40 (leb (length row) i) 0))) later
-        ≡ refuse 38 x (refuse 39 (not (allSound row)) (refuse 40 (leb (length row) i) later′))
-    go true e = refl
-    go false e =
-        let few : length row ≤ mostStations = few-of row e in
-        rw (sound-same row few) (inner (not (allSound row)) (leb (length row) i) (λ z. same few (leb-false (length row) i z)))
-
--- where a call at a place is taken, the row has a station there and is not too long
-there : (row : List Station) (i later : ℕ) → refuse 38 (rowSize row) (refuse 39 (unsoundStation row) (refuse 40 (noStation row i) later)) ≡ 0 → (length row ≤ mostStations) × (i < length row)
-there row i later e = go (rowSize row) (unsoundStation row) (noStation row i) refl refl e
-  where
-    go : (x y z : Bool) → rowSize row ≡ x → noStation row i ≡ z → refuse 38 x (refuse 39 y (refuse 40 z later)) ≡ 0 → (length row ≤ mostStations) × (i < length row)
-    go true y z p q f = absurd (omega arith)
-    go false true z p q f = absurd (omega arith)
-    go false false true p q f = absurd (omega arith)
-    go false false false p q f = (few-of row p, leb-false (length row) i q)
 
 -- the row after a call at a place
 restored : (row : List Station) (i number : ℕ) (s t : Station) (b : Bench) → b ≡ cond (eqb number 0) (withOf (benchOf row) i s) (benchOf row)
@@ -93,56 +98,44 @@ restored row i number s t b e in-row same = go (eqb number 0) refl e
     go false p f = ap (λ (c : Bench). putBack c row) f ∙ put-same row
 
 module _ (row : List Station) (i : ℕ) (r : Changed) where
-  module _ (m : List ℕ) (c : ChangedBy (benchOf row) (loadNumber (benchOf row) i m) (loadedBench (benchOf row) i m) r) where
-    load-number : loadNumber (benchOf row) i m ≡ numberOf (load i m) row
-    unfolding numberOf loadRules
-    load-number = numbers row i (loadRules (benchOf row) i m) (refuse 37 (badMessage m) (refuse 41 (holding row i) 0)) (λ few h. rw (station-same row few i h))
-
+  module _ (m : List ℕ) (c : ChangedBy (benchOf row) (callNumber (load i m) (benchOf row)) (loadedBench (benchOf row) i m) r) where
     -- Loading on the lent row keeps its promise ..
     pub load-kept : LoadPromise i m row (putBack (r .bench) row) (r .called)
-    unfolding after taken done numberOf
+    unfolding after taken done benchOf
     load-kept =
         record {
-          answers-it = c .says ∙ load-number;
+          answers-it = c .says ∙ same-number row (load i m);
           leaves-it =
               restored row i (numberOf (load i m) row) (loaded m (stationOf (benchOf row) i)) (loaded m (getD row i blank)) (r .bench)
-              (c .leaves ∙ ap (λ (n : ℕ). cond (eqb n 0) (loadedBench (benchOf row) i m) (benchOf row)) load-number)
-              (there row i (refuse 37 (badMessage m) (refuse 41 (holding row i) 0)))
+              (c .leaves ∙ ap (λ (n : ℕ). cond (eqb n 0) (loadedBench (benchOf row) i m) (benchOf row)) (same-number row (load i m)))
+              (λ z. let k = load-taken i m row (eq-eqb (numberOf (load i m) row) 0 z) in (k .passed .few, k .there))
               (λ few h. ap (loaded m) (station-same row few i h));
         }
 
-  module _ (c : ChangedBy (benchOf row) (withdrawNumber (benchOf row) i) (withdrawnBench (benchOf row) i) r) where
-    withdraw-number : withdrawNumber (benchOf row) i ≡ numberOf (withdraw i) row
-    unfolding numberOf withdrawRules
-    withdraw-number = numbers row i (withdrawRules (benchOf row) i) (refuse 42 (nothingToWithdraw row i) 0) (λ few h. rw (station-same row few i h))
-
+  module _ (c : ChangedBy (benchOf row) (callNumber (withdraw i) (benchOf row)) (withdrawnBench (benchOf row) i) r) where
     -- .. withdrawing too ..
     pub withdraw-kept : WithdrawPromise i row (putBack (r .bench) row) (r .called)
-    unfolding after taken done numberOf
+    unfolding after taken done benchOf
     withdraw-kept =
         record {
-          answers-it = c .says ∙ withdraw-number;
+          answers-it = c .says ∙ same-number row (withdraw i);
           leaves-it =
               restored row i (numberOf (withdraw i) row) (emptied (stationOf (benchOf row) i)) (emptied (getD row i blank)) (r .bench)
-              (c .leaves ∙ ap (λ (n : ℕ). cond (eqb n 0) (withdrawnBench (benchOf row) i) (benchOf row)) withdraw-number)
-              (there row i (refuse 42 (nothingToWithdraw row i) 0))
+              (c .leaves ∙ ap (λ (n : ℕ). cond (eqb n 0) (withdrawnBench (benchOf row) i) (benchOf row)) (same-number row (withdraw i)))
+              (λ z. let k = withdraw-taken i row (eq-eqb (numberOf (withdraw i) row) 0 z) in (k .passed .few, k .there))
               (λ few h. ap emptied (station-same row few i h));
         }
 
-  module _ (k : Clock) (c : ChangedBy (benchOf row) (clockNumber (benchOf row) i k) (clockedBench (benchOf row) i k) r) where
-    clock-number : clockNumber (benchOf row) i k ≡ numberOf (setClock i k) row
-    unfolding numberOf clockRules
-    clock-number = numbers row i (clockRules k) (refuse 36 (badClock k) 0) (λ few h. refl)
-
+  module _ (k : Clock) (c : ChangedBy (benchOf row) (callNumber (setClock i k) (benchOf row)) (clockedBench (benchOf row) i k) r) where
     -- .. and setting a clock.
     pub clock-kept : ClockPromise i k row (putBack (r .bench) row) (r .called)
-    unfolding after taken done numberOf
+    unfolding after taken done benchOf
     clock-kept =
         record {
-          answers-it = c .says ∙ clock-number;
+          answers-it = c .says ∙ same-number row (setClock i k);
           leaves-it =
               restored row i (numberOf (setClock i k) row) (clocked k (stationOf (benchOf row) i)) (clocked k (getD row i blank)) (r .bench)
-              (c .leaves ∙ ap (λ (n : ℕ). cond (eqb n 0) (clockedBench (benchOf row) i k) (benchOf row)) clock-number)
-              (there row i (refuse 36 (badClock k) 0))
+              (c .leaves ∙ ap (λ (n : ℕ). cond (eqb n 0) (clockedBench (benchOf row) i k) (benchOf row)) (same-number row (setClock i k)))
+              (λ z. let t = clock-taken i k row (eq-eqb (numberOf (setClock i k) row) 0 z) in (t .passed .few, t .there))
               (λ few h. ap (clocked k) (station-same row few i h));
         }

@@ -2,21 +2,21 @@
 -- is put back.
 use Prim.Native.Nat.{ℕ, suc, _+_, _-_, _≤_}
 use mathlib.Core.Path.{_≡_, refl, ap, ap₂, _∙_}
-use mathlib.Core.Bool.{Bool, true, false, cond, not}
+use mathlib.Core.Bool.{Bool, true, false, cond}
 use mathlib.Core.List.{List, [], _∷_, _++_, map, append-nil}
 use native.Mathlib.Omega.{arith}
 use lib.Dec.{eqb}
 use lib.ListN.{length, take, replicate, length-append, length-map, length-replicate}
 use lib.Seq.{take-at}
-use borrow.Author.Tests.{eqb-true, not-false}
 use Rattle.bench.specs.declared.Station.{Station}
 use Rattle.bench.specs.declared.Fared.{Fared}
 use Rattle.bench.specs.declared.Fared.the-variants.{Idle}
 use Rattle.bench.specs.declared.Verdict.{Verdict}
 use Rattle.bench.specs.Stations.{mostStations, blank}
 use Rattle.bench.specs.Contest.{Round, roundOf, verdictOf, verdictsOf, afterFares}
-use Rattle.bench.specs.Calls.{round, rowSize, allSound, unsoundStation, allEmpty, fewWords, nobodyWaiting, refuse, numberOf, taken, done, after, written, lentAfter}
+use Rattle.bench.specs.Calls.{round, allSound, numberOf, taken, done, after, written, lentAfter}
 use Rattle.bench.specs.Promises.{RoundSaid, RoundPromise, said, played, turnedAway, roundSays}
+use Rattle.bench.specs.Taken.{round-taken}
 use Rattle.bench.specs.RowLaws.{winnerOf, faresAgainst, row-fares}
 use Rattle.bench_row.specs.declared.Bench.{Bench}
 use Rattle.bench_round.specs.declared.playing.Played.{Played}
@@ -24,7 +24,7 @@ use Rattle.bench_row.specs.Benches.{benchOf}
 use Rattle.bench_round.specs.Rounds.{roundNumber, numberOn, PlayedBy}
 use Rattle.bench_lent.specs.Padding.{map-append, map-replicate, round-pad, after-pad}
 use Rattle.bench_lent.specs.Restoring.{padded, putBack, put-first, put-same}
-use Rattle.bench_lent.specs.Lent.{sound-same, empty-same, few-of}
+use Rattle.bench_lent.specs.Lent.{same-number}
 
 -- idle places past the row are what the verdicts are filled up with
 verdicts-pad : (fares : List Fared) (k : ℕ) → length fares + k ≡ mostStations → verdictsOf (fares ++ replicate k Idle) ≡ verdictsOf fares
@@ -43,26 +43,10 @@ after-length [] row = refl
 after-length (f ∷ fares) [] = refl
 after-length (f ∷ fares) (s ∷ row) = ap suc (after-length fares row)
 
--- where a round is taken, the row is not too long and its stations are sound
 module _ (row : List Station) (lent : List ℕ) where
   rules : numberOn (benchOf row) lent ≡ numberOf (round lent) row
-  unfolding roundNumber numberOf benchOf
-  rules = go (rowSize row) refl
-    where
-      go : (x : Bool) → rowSize row ≡ x → refuse 38 x (refuse 39 (not (allSound (benchOf row .at))) (refuse 32 (fewWords lent) (refuse 42 (allEmpty (benchOf row .at)) 0)))
-          ≡ refuse 38 x (refuse 39 (not (allSound row)) (refuse 32 (fewWords lent) (refuse 42 (allEmpty row) 0)))
-      go true e = refl
-      go false e = rw (sound-same row (few-of row e), empty-same row (few-of row e))
-
-  passed : numberOf (round lent) row ≡ 0 → (length row ≤ mostStations) × (allSound row ≡ true)
-  unfolding numberOf
-  passed e = go (rowSize row) (unsoundStation row) refl refl e
-    where
-      go : (x y : Bool) → rowSize row ≡ x → unsoundStation row ≡ y → refuse 38 x (refuse 39 y (refuse 32 (fewWords lent) (refuse 42 (nobodyWaiting row) 0))) ≡ 0
-          → (length row ≤ mostStations) × (allSound row ≡ true)
-      go true y p q f = absurd (omega arith)
-      go false true p q f = absurd (omega arith)
-      go false false p q f = (few-of row p, not-false (allSound row) q)
+  unfolding roundNumber benchOf
+  rules = same-number row (round lent)
 
   module _ (few : length row ≤ mostStations) (sound : allSound row ≡ true) where
     left : ℕ
@@ -113,11 +97,11 @@ module _ (row : List Station) (lent : List ℕ) where
           → lent′ ≡ cond t (written (roundOf now .words) lent) lent
           → RoundPromise row (putBack (r .bench) row) lent lent′ (r .answer)
       go true e p q s =
-          let k = passed (eqb-true (numberOf (round lent) row) 0 e) in
+          let k = round-taken lent row e .passed in
           record {
-            says-it = rw e (p ∙ played-same (k .0) (k .1));
-            leaves-it = rw e (put-round (k .0) (k .1) (r .bench) (ap (λ (b : Bench). b .at) q));
-            lends-it = rw e (s ∙ ap (λ (x : Round). written (x .words) lent) (round-same (k .0) (k .1)));
+            says-it = rw e (p ∙ played-same (k .few) (k .sound));
+            leaves-it = rw e (put-round (k .few) (k .sound) (r .bench) (ap (λ (b : Bench). b .at) q));
+            lends-it = rw e (s ∙ ap (λ (x : Round). written (x .words) lent) (round-same (k .few) (k .sound)));
           }
       go false e p q s =
           record {

@@ -1,23 +1,21 @@
 -- A round on a row by value is settled: its promise leaves one answer, one bench and one state of the lent words, and each
 -- refusal comes exactly when its rule holds, with the bench and the words as they were.
-use Prim.Native.Nat.{ℕ, zero, suc, _<_}
+use Prim.Native.Nat.{ℕ, _<_}
 use mathlib.Core.Path.{_≡_, refl, sym, ap, _∙_}
-use mathlib.Core.Bool.{Bool, true, false, cond, not, _||_}
-use mathlib.Core.List.{List, [], _∷_}
+use mathlib.Core.Bool.{Bool, true, false, cond}
+use mathlib.Core.List.{List}
 use native.Mathlib.Omega.{arith}
-use lib.Dec.{eqb, ltb}
-use lib.ListN.{length, getD, take}
+use lib.Dec.{eqb}
 use borrow.Author.Tests.{eqb-true, ne-eqb}
 use Rattle.laws.specs.Settled.{settled}
-use Rattle.frame.specs.Writing.{mostWords}
+use Rattle.laws.specs.Rules.{FirstToHold, TurnedAway}
+use Rattle.laws.specs.RuleLaws.{refuses}
 use Rattle.bench.specs.declared.RoundAnswer.{RoundAnswer}
-use Rattle.bench.specs.Stations.{mostStations}
 use Rattle.bench.specs.Contest.{roundOf}
+use Rattle.bench.specs.Calls.{round, rulesOn}
 use Rattle.bench.specs.Promises.{toldNumber, RoundSaid, said, played, turnedAway}
-use Rattle.bench.specs.Refusals.{TurnedAway, Rule, rule, chain, rulesOf, none, Alone, alone, stops-at}
 use Rattle.bench.specs.RoundSettled.{said-once}
 use Rattle.bench_row.specs.declared.Bench.{Bench}
-use Rattle.bench_row.specs.Surveys.{surveyOf}
 use Rattle.bench_round.specs.declared.playing.Played.{Played}
 use Rattle.bench_round.specs.Rounds.{roundNumber, numberOn, PlayedBy}
 
@@ -36,15 +34,6 @@ played-settled {r = r} {s = s} p q = (
 )
 
 -- ## The refusals
-
--- the rules of a round, in their order
-abbrev pub roundRules : Bench → List ℕ → List Rule
-roundRules b lent =
-    rule 38 (eqb (b .count) 0 || ltb mostStations (b .count)) ∷
-    rule 39 (not (surveyOf (b .at) .sound)) ∷
-    rule 32 (ltb (length lent) mostWords) ∷
-    rule 42 (surveyOf (b .at) .empty) ∷
-    []
 
 -- A round that is turned away says so and nothing else, and leaves the bench and the words as they were.
 pub record AsItWas (n : ℕ) (b : Bench) (lent left : List ℕ) (r : Played) : Type 0 where
@@ -65,27 +54,8 @@ module _ {b : Bench} {lent left : List ℕ} {r : Played} (p : PlayedBy b lent le
       let z : eqb (numberOn b lent) 0 ≡ false = ne-eqb (numberOn b lent) 0 (λ q. omega arith) in
       record { bench = p .leaves ∙ rw z; words = p .lends ∙ rw z; answer = p .says ∙ rw (z, e) }
 
-  -- The rule at place k turns the round away exactly when it holds and none before it does, and then all is as it was.
-  abbrev pub TurnsAway : ℕ → Type 0
-  TurnsAway k =
-      TurnedAway (toldNumber (r .answer .told)) (getD (roundRules b lent) k none .number) (rulesOf (take k (roundRules b lent))) (getD (roundRules b lent) k none .holds)
-      (AsItWas (getD (roundRules b lent) k none .number) b lent left r)
-
-  number-is : numberOn b lent ≡ chain (roundRules b lent)
+  -- A round: 38, 39, 32 and 42, each exactly when its rule is the first of the round's rules to hold, and then all is as it was.
+  pub round-exactly : (n : ℕ) → 0 < n
+      → TurnedAway (toldNumber (r .answer .told)) n (FirstToHold n (rulesOn (round lent) (b .count) (b .at))) (AsItWas n b lent left r)
   unfolding roundNumber
-  number-is = refl
-
-  turns-away : (k : ℕ) → 0 < getD (roundRules b lent) k none .number → Alone (roundRules b lent) k → TurnsAway k
-  turns-away k l h =
-      record {
-        exactly = rw (its-number ∙ number-is) (stops-at (roundRules b lent) k h);
-        unchanged = λ q. as-it-was (getD (roundRules b lent) k none .number) l (sym its-number ∙ q);
-      }
-
-  -- A round: 38, 39, 32 and 42, each exactly when.
-  pub round-exactly : (k : ℕ) → k < 4 → TurnsAway k
-  round-exactly zero h = turns-away 0 (omega arith) (alone refl refl refl)
-  round-exactly (suc zero) h = turns-away 1 (omega arith) (alone refl refl refl)
-  round-exactly (suc (suc zero)) h = turns-away 2 (omega arith) (alone refl refl refl)
-  round-exactly (suc (suc (suc zero))) h = turns-away 3 (omega arith) (alone refl refl refl)
-  round-exactly (suc (suc (suc (suc j)))) h = absurd (omega arith)
+  round-exactly n h = refuses n (rulesOn (round lent) (b .count) (b .at)) h refl its-number (λ q. as-it-was n h (sym its-number ∙ q))

@@ -1,13 +1,14 @@
 -- How the rules of a round decide what it comes to.
 use Prim.Native.Nat.{ℕ, _≤_}
-use mathlib.Core.Path.{_≡_, refl, sym, ap, ap₂, _∙_}
-use mathlib.Core.Bool.{Bool, true, false, not, _||_}
+use mathlib.Core.Path.{_≡_, refl, sym, ap, _∙_}
+use mathlib.Core.Bool.{Bool, true, false}
 use mathlib.Core.List.{List, map}
-use native.Mathlib.Omega.{arith}
-use lib.Dec.{eqb, ltb}
+use lib.Dec.{eqb}
 use lib.ListN.{length, length-map}
-use borrow.Author.Tests.{eqb-true, ltb-false, not-false}
-use Rattle.laws.specs.Settled.{settled}
+use borrow.Author.Tests.{eqb-true}
+use Rattle.laws.specs.Tests.{not-below}
+use Rattle.laws.specs.Meant.{not-unset}
+use Rattle.laws.specs.RuleLaws.{none-is}
 use Rattle.frame.specs.Writing.{mostWords}
 use Rattle.bench.specs.declared.Station.{Station}
 use Rattle.bench.specs.declared.RoundTold.{RoundTold}
@@ -15,23 +16,14 @@ use Rattle.bench.specs.declared.RoundAnswer.{RoundAnswer}
 use Rattle.bench.specs.Stations.{mostStations}
 use Rattle.bench.specs.Round.{longest}
 use Rattle.bench.specs.Contest.{entryOf, sofsAsked, roundOf}
-use Rattle.bench.specs.Calls.{allSound, refuse, written}
+use Rattle.bench.specs.Calls.{round, allSound, rulesOn, written}
 use Rattle.bench.specs.Promises.{toldNumber, RoundSaid, said, played, turnedAway}
-use Rattle.bench.specs.RoundSettled.{said-once}
 use Rattle.bench.specs.RowLaws.{winnerOf, faresAgainst, row-fares}
 use Rattle.bench_row.specs.declared.Bench.{Bench}
 use Rattle.bench_row.specs.declared.survey.Survey.{Survey}
 use Rattle.bench_row.specs.Surveys.{surveyOf}
-use Rattle.bench_round.specs.declared.playing.Played.{Played}
 use Rattle.bench_round.specs.Rounds.{roundNumber, numberOn, idleAll, afterVerdicts, PlayedBy}
 use Rattle.bench_round.specs.Playing.{after-is}
-
--- where four rules in a row turn nothing away, none of them holds
-four : (x y z u : Bool) → refuse 38 x (refuse 39 y (refuse 32 z (refuse 42 u 0))) ≡ 0 → (y ≡ false) × (z ≡ false)
-four true y z u e = absurd (omega arith)
-four false true z u e = absurd (omega arith)
-four false false true u e = absurd (omega arith)
-four false false false u e = (refl, refl)
 
 -- The rules answered: yes says whether they turned nothing away.
 module _ (b : Bench) (lent : List ℕ) (v : Survey) (e : v ≡ surveyOf (b .at)) (told : RoundTold) (p : toldNumber told ≡ roundNumber (b .count) v (length lent))
@@ -45,8 +37,9 @@ module _ (b : Bench) (lent : List ℕ) (v : Survey) (e : v ≡ surveyOf (b .at))
   passed : yes ≡ true → (allSound (b .at) ≡ true) × (mostWords ≤ length lent)
   unfolding roundNumber
   passed t =
-      let f = four (eqb (b .count) 0 || ltb mostStations (b .count)) (not (surveyOf (b .at) .sound)) (ltb (length lent) mostWords) (surveyOf (b .at) .empty) (eqb-true (numberOn b lent) 0 (first ∙ t)) in
-      (not-false (allSound (b .at)) (f .0), ltb-false (length lent) mostWords (f .1))
+      let rules = rulesOn (round lent) (b .count) (b .at) in
+      let n = none-is rules refl .0 (eqb-true (numberOn b lent) 0 (first ∙ t)) in
+      (not-unset (allSound (b .at)) (n .1 .0), not-below (length lent) mostWords (n .1 .1 .0))
 
   -- A round that no rule turns away has sound stations, the longest SOF and words enough.
   pub may-play : yes ≡ true → (allSound (b .at) ≡ true) × (v .sof ≡ longest (sofsAsked (map entryOf (b .at)))) × (mostWords ≤ length lent)
@@ -74,10 +67,3 @@ module _ (b : Bench) (lent : List ℕ) (v : Survey) (e : v ≡ surveyOf (b .at))
         leaves = rw (first ∙ t);
         lends = rw (first ∙ t);
       }
-
--- No second answer, no other bench and no other words are what a round comes to.
-pub played-settled : {b : Bench} {lent lent′ lent″ : List ℕ} {r s : Played} → PlayedBy b lent lent′ r → PlayedBy b lent lent″ s → (r ≡ s) × (lent′ ≡ lent″)
-played-settled {r} {s} p q = (
-  ap₂ (λ (x : Bench) (y : RoundAnswer). record { bench = x; answer = y }) (settled (p .leaves) (q .leaves)) (said-once (r .answer) (s .answer) (settled (p .says) (q .says))),
-  settled (p .lends) (q .lends),
-)

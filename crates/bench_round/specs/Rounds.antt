@@ -1,11 +1,11 @@
 -- A round on a row by value: what it answers, the bench after it, and the words that it leaves.
 use Prim.Native.Nat.{ℕ}
 use mathlib.Core.Path.{_≡_}
-use mathlib.Core.Bool.{cond, not, _||_}
+use mathlib.Core.Bool.{cond}
 use mathlib.Core.List.{List}
-use lib.Dec.{eqb, ltb}
+use lib.Dec.{eqb}
 use lib.ListN.{length, getD, replicate}
-use Rattle.frame.specs.Writing.{mostWords}
+use Rattle.laws.specs.Rules.{firstRule}
 use Rattle.bench.specs.declared.Station.{Station}
 use Rattle.bench.specs.declared.Fared.the-variants.{Idle}
 use Rattle.bench.specs.declared.Verdict.{Verdict}
@@ -13,7 +13,7 @@ use Rattle.bench.specs.declared.RoundTold.{RoundTold}
 use Rattle.bench.specs.declared.RoundAnswer.{RoundAnswer}
 use Rattle.bench.specs.Stations.{mostStations, blank}
 use Rattle.bench.specs.Contest.{roundOf, verdictOf, afterFare, afterFares}
-use Rattle.bench.specs.Calls.{refuse, written}
+use Rattle.bench.specs.Calls.{roundRules, written}
 use Rattle.bench.specs.Promises.{said, played, turnedAway}
 use Rattle.bench_row.specs.declared.Bench.{Bench}
 use Rattle.bench_row.specs.declared.survey.Survey.{Survey}
@@ -23,11 +23,7 @@ use Rattle.bench_row.specs.Surveys.{surveyOf}
 
 -- the number of the first rule that turns a round away
 unfoldable pub roundNumber : ℕ → Survey → ℕ → ℕ
-roundNumber n v lent =
-    refuse 38 (eqb n 0 || ltb mostStations n)
-    (refuse 39 (not (v .sound))
-    (refuse 32 (ltb lent mostWords)
-    (refuse 42 (v .empty) 0)))
+roundNumber n v lent = firstRule (roundRules n (v .sound) lent (v .empty))
 
 -- the same for a bench and lent words
 abbrev pub numberOn : Bench → List ℕ → ℕ

@@ -3,6 +3,7 @@
 --     none-is         it is 0 exactly when no rule holds
 --     none-greater    it is at most the greatest of the rules' numbers
 --     first-then      the rules of one list and then those of another
+--     first-same      two lists whose tests agree
 --     refuses         a call that answers it is turned away under n exactly then
 use Prim.Native.Nat.{ℕ, _≤_, _<_}
 use mathlib.Core.Path.{_≡_, refl, sym, _∙_}
@@ -94,6 +95,24 @@ first-then (r ∷ rs) later w =
         → cond t (r .number) (firstRule (rs ++ later)) ≡ andThen (cond t (r .number) (firstRule rs)) (firstRule later)
     go true d ih = rw (ne-eqb (r .number) 0 (λ e. eqb-false 0 (r .number) d (sym e)))
     go false d ih = ih
+
+-- Two lists of the same numbers, whose tests agree as long as none before them holds.
+abbrev pub Agree : List Rule → List Rule → Type 0
+Agree [] [] = Unit {0}
+Agree [] (q ∷ qs) = ⊥
+Agree (r ∷ rs) [] = ⊥
+Agree (r ∷ rs) (q ∷ qs) = (r .number ≡ q .number) × (r .when .says ≡ q .when .says) × (r .when .says ≡ false → Agree rs qs)
+
+-- Such lists have the same number.
+pub first-same : (rs qs : List Rule) → Agree rs qs → firstRule rs ≡ firstRule qs
+first-same [] [] a = refl
+first-same [] (q ∷ qs) a = absurd a
+first-same (r ∷ rs) [] a = absurd a
+first-same (r ∷ rs) (q ∷ qs) a = rw (← a .0, ← a .1) (go (r .when .says) (λ e. first-same rs qs (a .2 e)))
+  where
+    go : (t : Bool) → (t ≡ false → firstRule rs ≡ firstRule qs) → cond t (r .number) (firstRule rs) ≡ cond t (r .number) (firstRule qs)
+    go true h = refl
+    go false h = h refl
 
 -- A call that answers the number of the first of its rules that holds, and leaves everything as it was where that is n, is
 -- turned away under n exactly when rule n is the first to hold.

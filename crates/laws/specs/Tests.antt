@@ -24,6 +24,14 @@ upTo w n = go (leb w n) refl
     go true e = inl (leb-true w n e)
     go false e = inr (leb-false w n e)
 
+-- what is not below a number is at least it ..
+pub not-below : (a b : ℕ) → ¬ (a < b) → b ≤ a
+not-below a b h = ⊎-elim (λ k. k) (λ k. absurd (h k)) (upTo b a)
+
+-- .. and what is not at most it is above it
+pub not-at-most : (a b : ℕ) → ¬ (a ≤ b) → b < a
+not-at-most a b h = ⊎-elim (λ k. absurd (h k)) (λ k. k) (upTo a b)
+
 -- one of two tests holds where the second does
 pub or-right : (a b : Bool) → b ≡ true → (a || b) ≡ true
 or-right true b e = refl

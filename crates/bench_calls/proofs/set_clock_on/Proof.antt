@@ -1,4 +1,6 @@
 -- `bench_calls::set_clock_on` meets its contract: the first rules decide, or the later ones do.
+use Rattle.bench.specs.Calls.{clockRules}
+use Rattle.bench_calls.specs.Changes.{clockAtNumber}
 use Rattle.bench_calls.specs.ChangeLaws.{place-in, goes-on, stops}
 use borrow.Author.Needs.{needs}
 use Rattle.bench_calls.proofs.set_clock_on.Statement.{statement}
@@ -14,10 +16,11 @@ set-clock-at-requires : tie.Need-set-clock-at-requires
 set-clock-at-requires c κs = let a = c .before .before .before .args in place-in (a .bench) (a .place) (c .before .before .row-call .result) (c .before .before .row-call .ensures) _ (c .before .is-done .ensures) (c .if1 .taken)
 
 returns : tie.Need-returns
-returns c = let a = c .before .before .before .before .args in goes-on (a .bench) (a .place) (c .before .before .before .row-call .result) (c .before .before .before .row-call .ensures) _ (c .before .before .is-done .ensures) (c .before .if1 .taken) _ _ _ (c .set-clock-at .ensures)
+unfolding clockAtNumber
+returns c = let a = c .before .before .before .before .args in goes-on (a .bench) (a .place) (c .before .before .before .row-call .result) (c .before .before .before .row-call .ensures) _ (c .before .before .is-done .ensures) (c .before .if1 .taken) (clockRules (a .clock)) _ _ (c .set-clock-at .ensures)
 
 returns-2 : tie.Need-returns-2
-returns-2 c = let a = c .before .before .before .args in stops (a .bench) (a .place) (c .before .before .row-call .result) (c .before .before .row-call .ensures) _ (c .before .is-done .ensures) (c .if1 .left) _ _
+returns-2 c = let a = c .before .before .before .args in stops (a .bench) (a .place) (c .before .before .row-call .result) (c .before .before .row-call .ensures) _ (c .before .is-done .ensures) (c .if1 .left) (clockRules (a .clock)) _
 
 pub set-clock-on-spec : {M : Type 1} → statement M
 set-clock-on-spec =

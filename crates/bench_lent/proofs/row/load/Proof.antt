@@ -45,7 +45,8 @@ use Rattle.bench.proofs.Called.Laws as A″
 use Rattle.bench_row.specs.declared.Bench.{Bench}
 use Rattle.bench_calls.specs.declared.Changed.{Changed}
 use Rattle.bench_row.specs.Benches.{benchOf}
-use Rattle.bench_calls.specs.Changes.{ChangedBy, loadNumber, loadedBench}
+use Rattle.bench.specs.Calls as calls
+use Rattle.bench_calls.specs.Changes.{ChangedBy, callNumber, loadedBench}
 use Rattle.bench_lent.specs.Restoring.{putBack, put-length}
 use Rattle.bench_lent.specs.Lent.{load-kept}
 use Rattle.laws.specs.Walk.{envOf, allocs-all, frees-all, calls-told, upFrom}
@@ -91,7 +92,7 @@ module _ {M : Type 1} (𝓤 : URA M) (H : Heap 𝓤) (A : Atoms 𝓤) (mem : Mem
 
   module _ (κ : Lft) (q : Share) (c : Bench) (i : ℕ) (m : RefT (List ℕ)) where
     abbrev Says : Changed → Type 0
-    Says r = ChangedBy c (loadNumber c i (m .now)) (loadedBench c i (m .now)) r
+    Says r = ChangedBy c (callNumber (calls.load i (m .now)) c) (loadedBench c i (m .now)) r
 
     abbrev ens : Changed → SProp 𝓤
     ens = ensured 𝓤 H A load-on.ended (load-on.clauses 𝓤 H A mem run) (κ, tt) (c, (i, (m, tt))) tt

@@ -48,7 +48,8 @@ use Rattle.bench.proofs.Called.Laws as A″
 use Rattle.bench_row.specs.declared.Bench.{Bench}
 use Rattle.bench_calls.specs.declared.Changed.{Changed}
 use Rattle.bench_row.specs.Benches.{benchOf}
-use Rattle.bench_calls.specs.Changes.{ChangedBy, clockNumber, clockedBench}
+use Rattle.bench.specs.Calls as calls
+use Rattle.bench_calls.specs.Changes.{ChangedBy, callNumber, clockedBench}
 use Rattle.bench_lent.specs.Restoring.{putBack, put-length}
 use Rattle.bench_lent.specs.Lent.{clock-kept}
 use Rattle.laws.specs.Walk.{envOf, allocs-all, frees-all, calls-known, upFrom}
@@ -97,7 +98,7 @@ module _ {M : Type 1} (𝓤 : URA M) (H : Heap 𝓤) (A : Atoms 𝓤) (mem : Mem
 
   module _ (c : Bench) (i : ℕ) (k : Clock) where
     abbrev Says : Changed → Type 0
-    Says r = ChangedBy c (clockNumber c i k) (clockedBench c i k) r
+    Says r = ChangedBy c (callNumber (calls.setClock i k) c) (clockedBench c i k) r
 
     abbrev ens : Changed → SProp 𝓤
     ens = ensured 𝓤 H A set-clock-on.ended (set-clock-on.clauses 𝓤 H A mem run) tt (c, (i, (k, tt))) tt

@@ -45,7 +45,8 @@ use Rattle.bench.proofs.Called.Laws as A″
 use Rattle.bench_row.specs.declared.Bench.{Bench}
 use Rattle.bench_calls.specs.declared.Changed.{Changed}
 use Rattle.bench_row.specs.Benches.{benchOf}
-use Rattle.bench_calls.specs.Changes.{ChangedBy, withdrawNumber, withdrawnBench}
+use Rattle.bench.specs.Calls as calls
+use Rattle.bench_calls.specs.Changes.{ChangedBy, callNumber, withdrawnBench}
 use Rattle.bench_lent.specs.Restoring.{putBack, put-length}
 use Rattle.bench_lent.specs.Lent.{withdraw-kept}
 use Rattle.laws.specs.Walk.{envOf, allocs-all, frees-all, calls-known, upFrom}
@@ -91,7 +92,7 @@ module _ {M : Type 1} (𝓤 : URA M) (H : Heap 𝓤) (A : Atoms 𝓤) (mem : Mem
 
   module _ (c : Bench) (i : ℕ) where
     abbrev Says : Changed → Type 0
-    Says r = ChangedBy c (withdrawNumber c i) (withdrawnBench c i) r
+    Says r = ChangedBy c (callNumber (calls.withdraw i) c) (withdrawnBench c i) r
 
     abbrev ens : Changed → SProp 𝓤
     ens = ensured 𝓤 H A withdraw-on.ended (withdraw-on.clauses 𝓤 H A mem run) tt (c, (i, tt)) tt
