@@ -1,6 +1,7 @@
 -- The 32 places of a bench: one array in a local, and the cells of its elements.
 use mathlib.Core.Path.{_≡_}
-use Prim.Native.Nat.{ℕ}
+use Prim.Native.Nat.{ℕ, _<_, _*_, _^_}
+use native.Mathlib.Omega.{arith}
 use mathlib.Core.List.{[], _∷_, List}
 use lib.ListN.{length}
 use lib.Dec.{T as Holds}
@@ -62,3 +63,7 @@ module _ {M : Type 1} (𝓤 : URA M) (H : Heap 𝓤) (A : Atoms 𝓤) (W : Given
   -- its value has its type
   abbrev pub typed32 : (l : List Station) → Is R32 l (av l ∷ []) → Holds (hasTy (tyArray T′.mir 32) (av l)) × WT (av l)
   typed32 l is = array-lawful 𝓤 H A W R (LL.lawful T.the-type T′.the-laws 𝓤 H A W) 32 .typed l _ is .0
+
+-- where a station of 24 bytes lies in a row fits a usize
+pub scaled : (i n : ℕ) → i < n → n * 24 < 2 ^ 63 → i * 24 < 2 ^ 64
+scaled i n l r = omega (arith, l, r)

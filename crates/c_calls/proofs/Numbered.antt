@@ -27,7 +27,7 @@ use Rattle.bench.specs.declared.Called.{Called}
 use Rattle.bench.specs.Promises.{calledNumber}
 use Rattle.bench.proofs.Called as C
 use Rattle.bench.proofs.Called.Laws as C′
-use Rattle.laws.specs.Walk.{calls-plain}
+use Rattle.walks.specs.Walk.{calls-plain}
 use Rattle.c_numbers.specs.declared.contests.CallAnswer.{CallAnswer}
 use Rattle.c_numbers.specs.Contests.{calledAs}
 use Rattle.c_numbers.proofs.contests.CallAnswer as N

@@ -5,5 +5,3 @@ pub mod Rules
 pub mod RuleLaws
 pub mod Each
 pub mod Lent
-pub mod Walk
-pub mod Handing

@@ -32,14 +32,14 @@ use Rattle.live.specs.Feeding.{askedOf}
 use Rattle.live.proofs.Live as T
 use Rattle.live.proofs.Asked as C
 use Rattle.live.proofs.Asked.Laws as C′
-use Rattle.laws.specs.Walk.{envOf, allocs-all, frees-all, calls-plain, upFrom}
+use Rattle.walks.specs.Walk.{envOf, allocs-all, frees-all, calls-plain, upFrom}
 use Rattle.live_lent.proofs.ask as inner
 use Rattle.live_lent.proofs.ask.Symbol as inner-def
 use Rattle.live_lent.proofs.ask.Symbol.{name as #inner}
 use Rattle.live_lent.proofs.ask.Met as inner-thm
 use Rattle.c_numbers.specs.declared.heard.AskedAnswer.{AskedAnswer}
 use Rattle.c_numbers.specs.Heard.{askedAs}
-use Rattle.laws.specs.Handing.{calls-handed, hands-back, walks-on}
+use Rattle.walks.specs.Handing.{calls-handed, hands-back, walks-on}
 use Rattle.c_numbers.proofs.heard.AskedAnswer as N
 use Rattle.c_numbers.proofs.heard.AskedAnswer.Laws as N′
 use Rattle.c_numbers.proofs.asked_as as asked-as

@@ -44,14 +44,14 @@ use Rattle.live.specs.Feeding.{fedOf, lentOf}
 use Rattle.live.proofs.Live as T
 use Rattle.live.proofs.Heard as C
 use Rattle.live.proofs.Heard.Laws as C′
-use Rattle.laws.specs.Walk.{envOf, allocs-all, frees-all, calls-plain, upFrom}
+use Rattle.walks.specs.Walk.{envOf, allocs-all, frees-all, calls-plain, upFrom}
 use Rattle.live_lent.proofs.hear as inner
 use Rattle.live_lent.proofs.hear.Symbol as inner-def
 use Rattle.live_lent.proofs.hear.Symbol.{name as #inner}
 use Rattle.live_lent.proofs.hear.Met as inner-thm
 use Rattle.c_numbers.specs.declared.heard.HeardAnswer.{HeardAnswer}
 use Rattle.c_numbers.specs.Heard.{heardAs}
-use Rattle.laws.specs.Handing.{calls-handed, hands-back, walks-on}
+use Rattle.walks.specs.Handing.{calls-handed, hands-back, walks-on}
 use Rattle.c_numbers.proofs.heard.HeardAnswer as N
 use Rattle.c_numbers.proofs.heard.HeardAnswer.Laws as N′
 use Rattle.c_numbers.proofs.heard_as as heard-as

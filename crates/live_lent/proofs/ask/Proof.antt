@@ -44,7 +44,7 @@ use Rattle.live.proofs.ask as by-value
 use Rattle.live.proofs.ask.Symbol as by-value-def
 use Rattle.live.proofs.ask.Symbol.{name as #by-value}
 use Rattle.live.proofs.ask.Met as by-value-thm
-use Rattle.laws.specs.Walk.{envOf, allocs-all, frees-all, calls-plain, upFrom}
+use Rattle.walks.specs.Walk.{envOf, allocs-all, frees-all, calls-plain, upFrom}
 use Rattle.live_lent.proofs.ask.Key.{name as #self}
 use Rattle.live_lent.proofs.ask as f
 use Rattle.live_lent.proofs.ask.Statement as stated

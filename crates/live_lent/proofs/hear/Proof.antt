@@ -58,7 +58,7 @@ use Rattle.live.proofs.hear as by-value
 use Rattle.live.proofs.hear.Symbol as by-value-def
 use Rattle.live.proofs.hear.Symbol.{name as #by-value}
 use Rattle.live.proofs.hear.Met as by-value-thm
-use Rattle.laws.specs.Walk.{envOf, allocs-all, frees-all, upFrom, lies}
+use Rattle.walks.specs.Walk.{envOf, allocs-all, frees-all, upFrom, lies}
 use Rattle.live_lent.proofs.hear.Key.{name as #self}
 use Rattle.live_lent.proofs.hear as f
 use Rattle.live_lent.proofs.hear.Statement as stated

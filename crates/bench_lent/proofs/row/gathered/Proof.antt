@@ -54,8 +54,8 @@ use Rattle.bench.proofs.Station.Laws as T′
 use Rattle.bench_row.specs.declared.Bench.{Bench}
 use Rattle.bench_row.specs.Benches.{benchOf}
 use Rattle.bench_lent.specs.Restoring.{gathered, gather-start, gather-more, gather-all, gather-length}
-use Rattle.laws.specs.Walk.{Places, envOf, allocs-all, frees-all, calls-plain, tests, scaled, upFrom, lies, Opened}
-use Rattle.bench_lent.proofs.Cells.{R32, av, into-row, out-of-row, typed32}
+use Rattle.walks.specs.Walk.{Places, envOf, allocs-all, frees-all, calls-plain, tests, upFrom, lies, Opened}
+use Rattle.bench_lent.proofs.Cells.{R32, av, into-row, out-of-row, typed32, scaled}
 use Rattle.bench_row.proofs.Bench as B
 use Rattle.bench_row.proofs.Bench.Laws as B′
 use Rattle.bench_lent.proofs.row.gathered.Key.{name as #gathered}

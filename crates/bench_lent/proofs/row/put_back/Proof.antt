@@ -52,7 +52,8 @@ use Rattle.bench.proofs.Station.Laws as T′
 use Rattle.bench_row.specs.declared.Bench.{Bench}
 use Rattle.bench_row.specs.Scan.{filled, fill-start, fill-ahead, fill-more, fill-length, fill-all}
 use Rattle.bench_lent.specs.Restoring.{putBack, put-length}
-use Rattle.laws.specs.Walk.{Places, envOf, Locals, allocs-all, frees-all, calls-plain, tests, scaled, upFrom, lies}
+use Rattle.walks.specs.Walk.{Places, envOf, Locals, allocs-all, frees-all, calls-plain, tests, upFrom, lies}
+use Rattle.bench_lent.proofs.Cells.{scaled}
 use Rattle.bench_row.proofs.Bench as B
 use Rattle.bench_row.proofs.Bench.Laws as B′
 use Rattle.bench_row.proofs.station_at as station-at

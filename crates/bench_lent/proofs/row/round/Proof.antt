@@ -47,7 +47,7 @@ use Rattle.bench_row.specs.Benches.{benchOf}
 use Rattle.bench_round.specs.Rounds.{PlayedBy}
 use Rattle.bench_lent.specs.Restoring.{putBack, put-length}
 use Rattle.bench_lent.specs.LentRound.{round-kept}
-use Rattle.laws.specs.Walk.{envOf, allocs-all, frees-all, upFrom, lies}
+use Rattle.walks.specs.Walk.{envOf, allocs-all, frees-all, upFrom, lies}
 use Rattle.bench_lent.proofs.Passing.{bval, Gathered, PutBack, calls-gathered, calls-put-back}
 use Rattle.bench_row.proofs.Bench as B
 use Rattle.bench_row.proofs.Bench.Laws as B′

@@ -36,14 +36,14 @@ use Rattle.bench.specs.Promises.{RoundPromise, said}
 use Rattle.bench.proofs.Station as T
 use Rattle.bench.proofs.RoundAnswer as C
 use Rattle.bench.proofs.RoundAnswer.Laws as C′
-use Rattle.laws.specs.Walk.{envOf, allocs-all, frees-all, calls-plain, upFrom}
+use Rattle.walks.specs.Walk.{envOf, allocs-all, frees-all, calls-plain, upFrom}
 use Rattle.bench_lent.proofs.round as inner
 use Rattle.bench_lent.proofs.round.Symbol as inner-def
 use Rattle.bench_lent.proofs.round.Symbol.{name as #inner}
 use Rattle.bench_lent.proofs.round.Met as inner-thm
 use Rattle.c_numbers.specs.declared.contests.RoundAnswer as plain
 use Rattle.c_numbers.specs.Contests.{roundAs}
-use Rattle.laws.specs.Handing.{calls-handed, hands-back, walks-on}
+use Rattle.walks.specs.Handing.{calls-handed, hands-back, walks-on}
 use Rattle.c_numbers.proofs.contests.RoundAnswer as N
 use Rattle.c_numbers.proofs.contests.RoundAnswer.Laws as N′
 use Rattle.c_numbers.proofs.round_as as round-as
