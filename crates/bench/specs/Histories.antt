@@ -1,19 +1,19 @@
--- Histories of calls on a row, and what demand 3 counts in them: of "a row changed only by these calls", rounds are counted
--- "from the loading".
+-- Histories of calls on a row as their callers see them: calls with their answers, each of which keeps its promise, and what
+-- demand 3 counts in them, by the answers alone. Of "a row changed only by these calls", rounds are counted "from the
+-- loading".
 use Prim.Native.Nat.{ℕ, _+_}
 use mathlib.Core.Path.{_≡_}
 use mathlib.Core.Bool.{Bool, false, cond, not, _&&_, _||_}
 use mathlib.Core.List.{List, [], _∷_, map}
 use lib.Dec.{eqb}
+use Rattle.symbol.specs.declared.Clock.{Clock}
 use Rattle.bench.specs.declared.Station.{Station}
+use Rattle.bench.specs.declared.Called.{Called}
+use Rattle.bench.specs.declared.RoundAnswer.{RoundAnswer}
 use Rattle.bench.specs.Stations.{Bits, bitsSent, waitingAt}
 use Rattle.bench.specs.Order.{ahead, sameBits}
-use Rattle.bench.specs.Calls.{Call, load, withdraw, setClock, round, taken, after}
-
--- the row after the calls of a history, the first call first
-unfoldable pub afterAll : List Call → List Station → List Station
-afterAll [] row = row
-afterAll (c ∷ calls) row = afterAll calls (after c row)
+use Rattle.bench.specs.Calls.{Call, load, withdraw, setClock, round}
+use Rattle.bench.specs.Promises.{calledNumber, toldNumber, LoadPromise, WithdrawPromise, ClockPromise, RoundPromise}
 
 -- ## A: "the different messages ahead of it when it was loaded"
 
@@ -35,58 +35,94 @@ differentAhead m (x ∷ xs) = cond (ahead x m && not (among x xs)) 1 0 + differe
 abbrev pub aheadIn : List Station → List ℕ → ℕ
 aheadIn row m = differentAhead (bitsSent m) (waiting row)
 
+-- ## Calls with their answers
+
+-- A call that was made, with its answer; of a round also the lent words before and after.
+pub data Event : Type 0 where
+  loads : (place : ℕ) → (message : List ℕ) → Called → Event
+  withdraws : (place : ℕ) → Called → Event
+  setsClock : (place : ℕ) → Clock → Called → Event
+  plays : (lentEntry lentExit : List ℕ) → RoundAnswer → Event
+
+-- the call itself
+abbrev pub callOf : Event → Call
+callOf (loads i m a) = load i m
+callOf (withdraws i a) = withdraw i
+callOf (setsClock i c a) = setClock i c
+callOf (plays lentEntry lentExit a) = round lentEntry
+
+-- the call kept its promise, on a row from entry to exit
+abbrev pub Keeps : Event → List Station → List Station → Type 0
+Keeps (loads i m a) entry exit = LoadPromise i m entry exit a
+Keeps (withdraws i a) entry exit = WithdrawPromise i entry exit a
+Keeps (setsClock i c a) entry exit = ClockPromise i c entry exit a
+Keeps (plays lentEntry lentExit a) entry exit = RoundPromise entry exit lentEntry lentExit a
+
+-- "a row changed only by these calls, each lent the whole of it": each call finds the row as the one before it left it.
+pub data Happens : List Station → List Event → List Station → Type 0 where
+  nothing : {row : List Station} → Happens row [] row
+  then : {entry middle exit : List Station} {e : Event} {events : List Event} → Keeps e entry middle → Happens middle events exit
+      → Happens entry (e ∷ events) exit
+
+-- the number that was answered; 0 where the call was not turned away
+abbrev pub answered : Event → ℕ
+answered (loads i m a) = calledNumber a
+answered (withdraws i a) = calledNumber a
+answered (setsClock i c a) = calledNumber a
+answered (plays lentEntry lentExit a) = toldNumber (a .told)
+
+-- the call was not turned away
+abbrev pub accepted : Event → Bool
+accepted e = eqb (answered e) 0
+
 -- ## L: "the loadings ahead of it accepted since", and the rounds
 
--- what a call counts for: nothing where it is turned away, "no round" and "no loading"
-abbrev pub counted : Call → List Station → ℕ → ℕ
-counted c row n = cond (taken c row) n 0
+-- rounds: "A round turned away is no round"
+abbrev pub roundSeen : Event → ℕ
+roundSeen (loads i m a) = 0
+roundSeen (withdraws i a) = 0
+roundSeen (setsClock i c a) = 0
+roundSeen (plays lentEntry lentExit a) = cond (eqb (toldNumber (a .told)) 0) 1 0
 
--- a call that is taken, as a round
-abbrev pub asRound : Call → ℕ
-asRound (load i m) = 0
-asRound (withdraw i) = 0
-asRound (setClock i c) = 0
-asRound (round lent) = 1
+-- the rounds that were played
+unfoldable pub roundsSeen : List Event → ℕ
+roundsSeen [] = 0
+roundsSeen (e ∷ events) = roundSeen e + roundsSeen events
 
--- a call that is taken, as a loading ahead of m
-abbrev pub asLoadAhead : Bits → Call → ℕ
-asLoadAhead m (load i x) = cond (ahead (bitsSent x) m) 1 0
-asLoadAhead m (withdraw i) = 0
-asLoadAhead m (setClock i c) = 0
-asLoadAhead m (round lent) = 0
+-- an accepted loading ahead of m
+abbrev pub loadSeen : Bits → Event → ℕ
+loadSeen m (loads i x a) = cond (eqb (calledNumber a) 0 && ahead (bitsSent x) m) 1 0
+loadSeen m (withdraws i a) = 0
+loadSeen m (setsClock i c a) = 0
+loadSeen m (plays lentEntry lentExit a) = 0
 
--- the rounds of a history that begins with this row
-unfoldable pub roundsIn : List Call → List Station → ℕ
-roundsIn [] row = 0
-roundsIn (c ∷ calls) row = counted c row (asRound c) + roundsIn calls (after c row)
-
--- L, for the bits m and a history that begins with this row
-unfoldable pub loadsAhead : Bits → List Call → List Station → ℕ
-loadsAhead m [] row = 0
-loadsAhead m (c ∷ calls) row = counted c row (asLoadAhead m c) + loadsAhead m calls (after c row)
+-- L, for the message x
+unfoldable pub loadsSeen : List ℕ → List Event → ℕ
+loadsSeen x [] = 0
+loadsSeen x (e ∷ events) = loadSeen (bitsSent x) e + loadsSeen x events
 
 -- ## What disturbs a wait
 
--- the call is an accepted loading or withdrawal
-abbrev pub disturbs : Call → List Station → Bool
-disturbs (load i m) row = taken (load i m) row
-disturbs (withdraw i) row = taken (withdraw i) row
-disturbs (setClock i c) row = false
-disturbs (round lent) row = false
+-- an accepted withdrawal from place s
+abbrev pub withdrawalSeen : ℕ → Event → Bool
+withdrawalSeen s (loads i x a) = false
+withdrawalSeen s (withdraws i a) = eqb s i && eqb (calledNumber a) 0
+withdrawalSeen s (setsClock i c a) = false
+withdrawalSeen s (plays lentEntry lentExit a) = false
 
--- "with no loading or withdrawal": none that is not turned away
-abbrev pub Undisturbed : List Call → List Station → Type 0
-Undisturbed [] row = Unit {0}
-Undisturbed (c ∷ calls) row = (disturbs c row ≡ false) × Undisturbed calls (after c row)
+-- no withdrawal from place s was accepted
+abbrev pub NoWithdrawalSeen : ℕ → List Event → Type 0
+NoWithdrawalSeen s [] = Unit {0}
+NoWithdrawalSeen s (e ∷ events) = (withdrawalSeen s e ≡ false) × NoWithdrawalSeen s events
 
--- the call is an accepted withdrawal from place s
-abbrev pub takesBack : ℕ → Call → List Station → Bool
-takesBack s (load i m) row = false
-takesBack s (withdraw i) row = eqb s i && taken (withdraw i) row
-takesBack s (setClock i c) row = false
-takesBack s (round lent) row = false
+-- an accepted loading or withdrawal
+abbrev pub trafficSeen : Event → Bool
+trafficSeen (loads i x a) = eqb (calledNumber a) 0
+trafficSeen (withdraws i a) = eqb (calledNumber a) 0
+trafficSeen (setsClock i c a) = false
+trafficSeen (plays lentEntry lentExit a) = false
 
--- nothing is withdrawn from place s
-abbrev pub NotWithdrawn : ℕ → List Call → List Station → Type 0
-NotWithdrawn s [] row = Unit {0}
-NotWithdrawn s (c ∷ calls) row = (takesBack s c row ≡ false) × NotWithdrawn s calls (after c row)
+-- no loading and no withdrawal was accepted
+abbrev pub NoTrafficSeen : List Event → Type 0
+NoTrafficSeen [] = Unit {0}
+NoTrafficSeen (e ∷ events) = (trafficSeen e ≡ false) × NoTrafficSeen events

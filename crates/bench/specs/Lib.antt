@@ -22,13 +22,11 @@ pub mod Counting
 pub mod CallLaws
 pub mod Readable
 pub mod ThroughReads
+pub mod RowSettled
+pub mod RoundSettled
+pub mod HistoryLaws
 pub mod Waiting
 pub mod WaitingEnds
 pub mod RunsOut
 pub mod RoundShows
-pub mod Seen
-pub mod SeenCounts
-pub mod SeenEnds
 pub mod Worked
-pub mod RowSettled
-pub mod RoundSettled

@@ -1,26 +1,31 @@
--- Demand 3 with nothing left to suppose: load a message, then only run rounds with 101 words lent, and it goes out in round A + 1.
+-- Demand 3 with no count left to suppose: load a message, then only run rounds with 101 words lent, and it goes out in round
+-- A + 1.
 use Prim.Native.Nat.{ℕ, zero, suc, _+_, _≤_}
-use mathlib.Core.Path.{_≡_, refl, sym, _∙_}
+use mathlib.Core.Path.{_≡_, refl, sym, subst, _∙_}
 use mathlib.Core.Logic.{_≢_, ⊎-elim}
 use mathlib.Core.Bool.{Bool, true, false, cond, _&&_}
 use mathlib.Core.List.{List, [], _∷_}
 use native.Mathlib.Omega.{arith}
-use lib.ListN.{length, getD, replicate}
+use lib.Dec.{eqb}
+use lib.ListN.{length, getD}
 use Rattle.laws.specs.Tests.{never}
 use Rattle.checkbyte.specs.Differ.{Bytes}
 use Rattle.frame.specs.Writing.{mostWords}
 use Rattle.bench.specs.declared.Station.{Station}
-use Rattle.bench.specs.Stations.{Bits, bitsSent, empty}
+use Rattle.bench.specs.declared.Called.{Called}
+use Rattle.bench.specs.Stations.{Bits, empty}
 use Rattle.bench.specs.Order.{sameBits}
 use Rattle.bench.specs.Calls.{Call, load, round, allEmpty, taken, after}
-use Rattle.bench.specs.Histories.{afterAll, waiting, aheadIn, roundsIn, Undisturbed}
+use Rattle.bench.specs.Promises.{toldNumber, LoadPromise}
+use Rattle.bench.specs.Histories.{waiting, aheadIn, Event, loads, withdraws, setsClock, plays, Happens, nothing, then, roundsSeen, NoTrafficSeen}
+use Rattle.bench.specs.HistoryLaws.{accepted-taken}
 use Rattle.bench.specs.RowLaws.{winnerOf, sent-some}
 use Rattle.bench.specs.Places.{stationAt, waiting-at, some-holder}
 use Rattle.bench.specs.Taken.{RowPassed, taken-when, load-taken}
 use Rattle.bench.specs.RowShows.{same-length, stays-sound}
 use Rattle.bench.specs.Counting.{without-at}
 use Rattle.bench.specs.CallLaws.{round-waiting, away-same}
-use Rattle.bench.specs.WaitingEnds.{GoesOutInTime, Outcome, goesOut, isWithdrawn, stillWaits, outcome, kept, undisturbed-kept, undisturbed-loads, undisturbed-before}
+use Rattle.bench.specs.WaitingEnds.{GoesOutInTime, Outcome, goesOut, isWithdrawn, stillWaits, outcome, loading-taken, kept, quiet-kept, quiet-loads, quiet-before}
 
 -- ## A round that has something to do is taken
 
@@ -62,45 +67,66 @@ waited lent row s n e = go (taken (round lent) row) refl
     go true t = n (rw (round-waiting lent row t) (without-at s (winnerOf row) (waiting row) ∙ rw e (either (sameBits [] (winnerOf row)))))
     go false t = n (rw (away-same (round lent) row t) e)
 
-waited-all : (lent : List ℕ) (n : ℕ) (row : List Station) (s : ℕ) → getD (waiting (afterAll (replicate n (round lent)) row)) s [] ≢ []
+-- a round with 101 words lent
+abbrev pub RoundLent : Event → Type 0
+RoundLent (loads i m a) = ⊥
+RoundLent (withdraws i a) = ⊥
+RoundLent (setsClock i c a) = ⊥
+RoundLent (plays lent lentExit a) = mostWords ≤ length lent
+
+-- rounds and nothing else
+abbrev pub OnlyRounds : List Event → Type 0
+OnlyRounds [] = Unit {0}
+OnlyRounds (e ∷ events) = RoundLent e × OnlyRounds events
+
+only-quiet : (events : List Event) → OnlyRounds events → NoTrafficSeen events
+only-quiet [] o = tt
+only-quiet (loads i m a ∷ events) o = absurd (o .0)
+only-quiet (withdraws i a ∷ events) o = absurd (o .0)
+only-quiet (setsClock i c a ∷ events) o = absurd (o .0)
+only-quiet (plays lent lentExit a ∷ events) o = (refl, only-quiet events (o .1))
+
+-- what waits after them has waited before
+waited-all : {row exit : List Station} {events : List Event} (s : ℕ) → Happens row events exit → OnlyRounds events → getD (waiting exit) s [] ≢ []
     → getD (waiting row) s [] ≢ []
-unfolding afterAll
-waited-all lent zero row s h = h
-waited-all lent (suc n) row s h = waited lent row s (waited-all lent n (after (round lent) row) s h)
+waited-all s nothing o n = n
+waited-all s (then {e = loads i m a} k h) o n = absurd (o .0)
+waited-all s (then {e = withdraws i a} k h) o n = absurd (o .0)
+waited-all s (then {e = setsClock i c a} k h) o n = absurd (o .0)
+waited-all s (then {entry} {e = plays lent lentExit a} k h) o n =
+    waited lent entry s (subst (λ (r : List Station). getD (waiting r) s [] ≢ []) (k .leaves-it) (waited-all s h (o .1) n))
 
--- while a message waits, each of them is taken
-all-taken : (lent : List ℕ) (n : ℕ) (row : List Station) (s : ℕ) → RowPassed row → mostWords ≤ length lent
-    → getD (waiting (afterAll (replicate n (round lent)) row)) s [] ≢ [] → roundsIn (replicate n (round lent)) row ≡ n
-unfolding afterAll roundsIn
-all-taken lent zero row s p w h = refl
-all-taken lent (suc n) row s p w h =
-    rw (round-is-taken lent row p w s (waited-all lent (suc n) row s h))
-    (omega (arith, all-taken lent n (after (round lent) row) s (passes-on (round lent) row p) w h))
-
-undisturbed-rounds : (lent : List ℕ) (n : ℕ) (row : List Station) → Undisturbed (replicate n (round lent)) row
-undisturbed-rounds lent zero row = tt
-undisturbed-rounds lent (suc n) row = (refl, undisturbed-rounds lent n (after (round lent) row))
+-- while a message waits, each of them is played
+all-played : {row exit : List Station} {events : List Event} (s : ℕ) → Happens row events exit → OnlyRounds events → RowPassed row
+    → getD (waiting exit) s [] ≢ [] → roundsSeen events ≡ length events
+unfolding roundsSeen
+all-played s nothing o p n = refl
+all-played s (then {e = loads i m a} k h) o p n = absurd (o .0)
+all-played s (then {e = withdraws i a} k h) o p n = absurd (o .0)
+all-played s (then {e = setsClock i c a} k h) o p n = absurd (o .0)
+all-played s (then {entry} {middle} {e = plays lent lentExit a} {events} k h) o p n =
+    let t = round-is-taken lent entry p (o .0) s (waited-all s (then {e = plays lent lentExit a} k h) o n) in
+    let played : eqb (toldNumber (a .told)) 0 ≡ true = accepted-taken (plays lent lentExit a) entry middle k ∙ t in
+    let on : RowPassed middle = subst RowPassed (sym (k .leaves-it)) (passes-on (round lent) entry p) in
+    rw played (omega (arith, all-played s h (o .1) on n))
 
 -- RUN ROUNDS AND IT GOES OUT. A message is loaded; then A + 1 rounds are called for, each with 101 words lent, and nothing else.
 -- It goes out, whole and readable, in exactly round A + 1.
-pub runs-out : (s : ℕ) (x : List ℕ) (row : List Station) → Bytes x → taken (load s x) row ≡ true → (lent : List ℕ) → mostWords ≤ length lent
-    → (g : GoesOutInTime s x row (replicate (aheadIn row x + 1) (round lent)))
-    × (roundsIn (g .out .before) (after (load s x) row) + 1 ≡ aheadIn row x + 1)
-runs-out s x row b t lent w = go (outcome s x row b t calls)
+pub runs-out : (s : ℕ) (x : List ℕ) (start : List Station) → Bytes x → {row : List Station} → LoadPromise s x start row Called.Done
+    → {events : List Event} {exit : List Station} → Happens row events exit → OnlyRounds events → length events ≡ aheadIn start x + 1
+    → (g : GoesOutInTime s x start row events) × (roundsSeen (g .out .before) + 1 ≡ aheadIn start x + 1)
+runs-out s x start b {row} loaded {events} {exit} h o l = go (outcome s x start b loaded h)
   where
-    calls : List Call
-    calls = replicate (aheadIn row x + 1) (round lent)
+    quiet : NoTrafficSeen events
+    quiet = only-quiet events o
 
-    new : List Station
-    new = after (load s x) row
+    passed : RowPassed row
+    passed = subst RowPassed (sym (loaded .leaves-it)) (passes-on (load s x) start (load-taken s x start (loading-taken s x start b loaded) .passed))
 
-    quiet : Undisturbed calls new
-    quiet = undisturbed-rounds lent (aheadIn row x + 1) new
-
-    go : Outcome s x row calls → (g : GoesOutInTime s x row calls) × (roundsIn (g .out .before) new + 1 ≡ aheadIn row x + 1)
-    go (goesOut g) = (g, g .exactly (undisturbed-before (g .out .before) (round (g .out .lent) ∷ g .out .later) new (rw (g .out .parts) at quiet)))
-    go (isWithdrawn d) = absurd (kept s (d .before) (d .later) new (rw (d .parts) at (undisturbed-kept s calls new quiet)) (d .accepted))
-    go (stillWaits h l) =
-        let n : roundsIn calls new ≡ aheadIn row x + 1 =
-        all-taken lent (aheadIn row x + 1) new s (passes-on (load s x) row (load-taken s x row t .passed)) w (λ e. sent-some x (sym h ∙ e)) in
-        absurd (omega (arith, undisturbed-loads (bitsSent x) calls new quiet))
+    go : Outcome s x start row events exit → (g : GoesOutInTime s x start row events) × (roundsSeen (g .out .before) + 1 ≡ aheadIn start x + 1)
+    go (goesOut g) =
+        (g, g .exactly (quiet-before (g .out .before) (plays (g .out .lent) (g .out .lentExit) (g .out .answer) ∷ g .out .later) (rw (g .out .parts) at quiet)))
+    go (isWithdrawn w) = absurd (kept s (w .before) (w .later) (w .answer) (rw (w .parts) at (quiet-kept s events quiet)) (w .accepted))
+    go (stillWaits f n) =
+        let played : roundsSeen events ≡ length events = all-played s h o passed (λ e. sent-some x (sym f ∙ e)) in
+        absurd (omega (arith, quiet-loads x events quiet))

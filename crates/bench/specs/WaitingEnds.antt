@@ -1,12 +1,13 @@
 -- Demand 3: waiting ends. A message that is loaded and not withdrawn goes out, whole and readable, no later than round
--- 1 + A + L from its loading; with no loading or withdrawal in exactly round A + 1.
+-- 1 + A + L from its loading; with no loading or withdrawal in exactly round A + 1. Whatever rows, words and answers keep the
+-- promises, it is so, and is seen by the answers alone.
 use Prim.Native.Nat.{ℕ, _+_, _≤_}
-use mathlib.Core.Path.{_≡_, refl, sym, _∙_}
-use mathlib.Core.Bool.{Bool, true, false, cond, _&&_}
+use mathlib.Core.Path.{_≡_, refl, sym, ap, _∙_}
+use mathlib.Core.Bool.{true, false, and-false}
 use mathlib.Core.List.{List, [], _∷_, _++_}
 use native.Mathlib.Omega.{arith}
 use lib.Dec.{eqb}
-use lib.ListN.{length}
+use lib.ListN.{length, take, getD}
 use lib.Seq.{getD-set-same}
 use borrow.Author.Tests.{eq-eqb}
 use Rattle.laws.specs.Tests.{never}
@@ -16,18 +17,20 @@ use Rattle.frame.specs.declared.Response.the-variants.{Without}
 use Rattle.frame.specs.Faults.{mostBytes}
 use Rattle.frame.specs.Reading.{good, reading}
 use Rattle.bench.specs.declared.Station.{Station}
-use Rattle.bench.specs.declared.Fared.the-variants.{Through}
+use Rattle.bench.specs.declared.Fared.the-variants.{Idle, Through}
+use Rattle.bench.specs.declared.Called.{Called}
+use Rattle.bench.specs.declared.RoundAnswer.{RoundAnswer}
 use Rattle.bench.specs.Stations.{mostStored, Bits, bitsSent, waitingAt}
 use Rattle.bench.specs.OrderLaws.{same-refl}
-use Rattle.bench.specs.Contest.{sumOf, roundOf}
-use Rattle.bench.specs.Calls.{Call, load, withdraw, setClock, round, taken, after, lentAfter}
-use Rattle.bench.specs.Histories.{afterAll, waiting, aheadIn, counted, asLoadAhead, roundsIn, loadsAhead, disturbs, Undisturbed, takesBack, NotWithdrawn}
-use Rattle.bench.specs.RowLaws.{winnerOf, sent-some}
+use Rattle.bench.specs.Contest.{sumOf, roundOf, verdictOf}
+use Rattle.bench.specs.Calls.{load, round, numberOf, taken}
+use Rattle.bench.specs.Promises.{calledNumber, toldNumber, LoadPromise, RoundPromise, RoundSaid, said, played, roundSays}
+use Rattle.bench.specs.Histories.{waiting, aheadIn, Event, loads, withdraws, setsClock, plays, Happens, roundsSeen, loadSeen, loadsSeen, withdrawalSeen, NoWithdrawalSeen, trafficSeen, NoTrafficSeen}
+use Rattle.bench.specs.RowLaws.{winnerOf}
 use Rattle.bench.specs.Places.{waiting-at, waiting-length, empty-none, stationAt}
 use Rattle.bench.specs.Taken.{LoadTaken, load-taken}
-use Rattle.bench.specs.Fates.{fareAt}
-use Rattle.bench.specs.Winner.{wins}
-use Rattle.bench.specs.LineTime.{on-the-line}
+use Rattle.bench.specs.Winner.{wins, verdict-at}
+use Rattle.bench.specs.LineTime.{on-the-line, words-first}
 use Rattle.bench.specs.Counting.{own-count, without-at}
 use Rattle.bench.specs.CallLaws.{load-waiting, round-waiting}
 use Rattle.bench.specs.Readable.{round-reads}
@@ -35,138 +38,155 @@ use Rattle.bench.specs.Waiting.{WaitsAt, aheadNow, GoesOut, TakenBack, F
 
 -- ## What it is to go out
 
--- The round on a row, with these words lent, carries the message x from place s.
-pub record Sent (s : ℕ) (x : List ℕ) (lent : List ℕ) (row : List Station) : Type 0 where
-  pub through : fareAt row s ≡ Through
+-- A round's answer, its words and the row after it show the message x going out from place s.
+pub record Shows (s : ℕ) (x : List ℕ) (exit : List Station) (lentExit : List ℕ) (a : RoundAnswer) : Type 0 where
+  pub told : toldNumber (a .told) ≡ 0
+  pub through : getD (a .verdicts) s (verdictOf Idle) ≡ verdictOf Through
   -- whole and readable: x is what demand 2's reader finds in the lent words afterwards
-  pub readable : (bytesLent : ℕ) → mostBytes ≤ bytesLent
-      → reading (lentAfter row lent) 0 bytesLent ≡ good (withCheck x) [] Without 0 (2 + length (bitsSent x))
+  pub readable : (bytesLent : ℕ) → mostBytes ≤ bytesLent → reading lentExit 0 bytesLent ≡ good (withCheck x) [] Without 0 (2 + length (bitsSent x))
+  -- the line time is the sum of the words written, less the closing 300
+  pub time : a .«line_time» .0 + 300 ≡ sumOf (take (a .words) lentExit)
   -- "No round takes more than 14,438 µs of line time"
-  pub time : roundOf row .lineTime + 300 ≡ sumOf (roundOf row .words)
-  pub bound : roundOf row .lineTime ≤ 14438
+  pub bound : a .«line_time» .0 ≤ 14438
   -- the place is empty afterwards
-  pub emptied : waitingAt (stationAt (after (round lent) row) s) ≡ []
+  pub emptied : waitingAt (stationAt exit s) ≡ []
 
-sent : (s : ℕ) (x : List ℕ) (lent : List ℕ) (row : List Station) → Bytes x → 1 ≤ length x → length x ≤ mostStored
-    → taken (round lent) row ≡ true → WaitsAt s (bitsSent x) row → winnerOf row ≡ bitsSent x → Sent s x lent row
-sent s x lent row b lo hi t h w =
-    let l = on-the-line lent row t in
-    record {
-      through = wins lent row t .through s .1 (sym (waiting-at row s) ∙ h ∙ sym w);
-      readable = round-reads lent row t x w b lo hi;
-      time = l .time;
-      bound = l .bound;
-      emptied =
-          sym (waiting-at (after (round lent) row) s) ∙ rw (round-waiting lent row t) (without-at s (winnerOf row) (waiting row) ∙ rw (h, w, same-refl (bitsSent x)));
-    }
+module _ (s : ℕ) (x : List ℕ) (b : Bytes x) (lo : 1 ≤ length x) (hi : length x ≤ mostStored) {row exit : List Station} {lent lentExit : List ℕ} {a : RoundAnswer}
+    (p : RoundPromise row exit lent lentExit a) (t : taken (round lent) row ≡ true) (h : WaitsAt s (bitsSent x) row) (w : winnerOf row ≡ bitsSent x) where
+  says : said a ≡ played (roundOf row)
+  unfolding roundSays
+  says = p .says-it ∙ rw t
+
+  words : a .words ≡ length (roundOf row .words)
+  words = ap (λ (r : RoundSaid). r .words) says
+
+  time-is : a .«line_time» .0 ≡ roundOf row .lineTime
+  time-is = ap (λ (r : RoundSaid). r .lineTime) says
+
+  empty-after : waitingAt (stationAt exit s) ≡ []
+  empty-after =
+      sym (waiting-at exit s) ∙ ap (λ (r : List Station). getD (waiting r) s []) (p .leaves-it)
+      ∙ rw (round-waiting lent row t) (without-at s (winnerOf row) (waiting row) ∙ rw (h, w, same-refl (bitsSent x)))
+
+  shows : Shows s x exit lentExit a
+  shows =
+      let l = on-the-line lent row t in
+      record {
+        told = ap (λ (r : RoundSaid). r .number) says;
+        through =
+            ap (λ (r : RoundSaid). getD (r .verdicts) s (verdictOf Idle)) says
+            ∙ verdict-at row s ∙ ap verdictOf (wins lent row t .through s .1 (sym (waiting-at row s) ∙ h ∙ sym w));
+        readable = rw (p .lends-it) (round-reads lent row t x w b lo hi);
+        time = rw (words, time-is, p .lends-it, words-first lent row t) (l .time);
+        bound = rw time-is (l .bound);
+        emptied = empty-after;
+      }
 
 -- ## Histories in which nothing is withdrawn, or nothing disturbs
 
--- Where nothing is withdrawn from s, no call of the history withdraws from s.
-pub kept : (s : ℕ) (before later : List Call) (row : List Station) → NotWithdrawn s (before ++ (withdraw s ∷ later)) row
-    → taken (withdraw s) (afterAll before row) ≡ true → ⊥
-unfolding afterAll
-kept s [] later row n t = never (rw (eq-eqb s s refl) t) (n .0)
-kept s (c ∷ before) later row n t = kept s before later (after c row) (n .1) t
+-- Where no withdrawal from s is seen, no call of the history has withdrawn from s.
+pub kept : (s : ℕ) (before later : List Event) (a : Called) → NoWithdrawalSeen s (before ++ (withdraws s a ∷ later)) → calledNumber a ≡ 0 → ⊥
+kept s [] later a n t = never (rw (eq-eqb s s refl) (eq-eqb (calledNumber a) 0 t)) (n .0)
+kept s (e ∷ before) later a n t = kept s before later a (n .1) t
 
--- Without a loading or withdrawal, nothing is withdrawn from s ..
-pub undisturbed-kept : (s : ℕ) (calls : List Call) (row : List Station) → Undisturbed calls row → NotWithdrawn s calls row
-undisturbed-kept s [] row u = tt
-undisturbed-kept s (c ∷ calls) row u = (go c (u .0), undisturbed-kept s calls (after c row) (u .1))
-  where
-    neither : (b : Bool) → (b && false) ≡ false
-    neither true = refl
-    neither false = refl
+traffic-withdraws : (s : ℕ) (e : Event) → trafficSeen e ≡ false → withdrawalSeen s e ≡ false
+traffic-withdraws s (loads i m a) u = refl
+traffic-withdraws s (withdraws i a) u = rw (u, and-false (eqb s i))
+traffic-withdraws s (setsClock i c a) u = refl
+traffic-withdraws s (plays entry exit a) u = refl
 
-    go : (c : Call) → disturbs c row ≡ false → takesBack s c row ≡ false
-    go (load i m) d = refl
-    go (withdraw i) d = rw d (neither (eqb s i))
-    go (setClock i c) d = refl
-    go (round lent) d = refl
+traffic-loads : (m : Bits) (e : Event) → trafficSeen e ≡ false → loadSeen m e ≡ 0
+traffic-loads m (loads i x a) u = rw u
+traffic-loads m (withdraws i a) u = refl
+traffic-loads m (setsClock i c a) u = refl
+traffic-loads m (plays entry exit a) u = refl
+
+-- Without a loading or withdrawal nothing is withdrawn from s ..
+pub quiet-kept : (s : ℕ) (events : List Event) → NoTrafficSeen events → NoWithdrawalSeen s events
+quiet-kept s [] u = tt
+quiet-kept s (e ∷ events) u = (traffic-withdraws s e (u .0), quiet-kept s events (u .1))
 
 -- .. and L is 0 ..
-pub undisturbed-loads : (m : Bits) (calls : List Call) (row : List Station) → Undisturbed calls row → loadsAhead m calls row ≡ 0
-unfolding loadsAhead
-undisturbed-loads m [] row u = refl
-undisturbed-loads m (c ∷ calls) row u = omega (arith, go c (u .0), undisturbed-loads m calls (after c row) (u .1))
-  where
-    nothing : (b : Bool) → cond {A = ℕ} b 0 0 ≡ 0
-    nothing true = refl
-    nothing false = refl
-
-    go : (c : Call) → disturbs c row ≡ false → counted c row (asLoadAhead m c) ≡ 0
-    go (load i x) d = rw d
-    go (withdraw i) d = nothing (taken (withdraw i) row)
-    go (setClock i c) d = nothing (taken (setClock i c) row)
-    go (round lent) d = nothing (taken (round lent) row)
+pub quiet-loads : (x : List ℕ) (events : List Event) → NoTrafficSeen events → loadsSeen x events ≡ 0
+unfolding loadsSeen
+quiet-loads x [] u = refl
+quiet-loads x (e ∷ events) u = omega (arith, traffic-loads (bitsSent x) e (u .0), quiet-loads x events (u .1))
 
 -- .. and so it is up to any call.
-pub undisturbed-before : (before later : List Call) (row : List Station) → Undisturbed (before ++ later) row → Undisturbed before row
-undisturbed-before [] later row u = tt
-undisturbed-before (c ∷ before) later row u = (u .0, undisturbed-before before later (after c row) (u .1))
+pub quiet-before : (before later : List Event) → NoTrafficSeen (before ++ later) → NoTrafficSeen before
+quiet-before [] later u = tt
+quiet-before (e ∷ before) later u = (u .0, quiet-before before later (u .1))
 
 -- ## Demand 3
 
--- The message x, loaded at place s of a row, goes out in a round of the calls that follow, whole and readable. A is `aheadIn row
--- x`, L is counted up to that round, and so are the rounds.
-pub record GoesOutInTime (s : ℕ) (x : List ℕ) (row : List Station) (calls : List Call) : Type 0 where
-  pub out : GoesOut s (bitsSent x) calls (after (load s x) row)
-  pub sent : Sent s x (out .lent) (afterAll (out .before) (after (load s x) row))
+-- The message x, loaded at place s of the row start, which became row, goes out in a round of the calls that follow, whole and
+-- readable. A is `aheadIn start x`, L is counted up to that round, and so are the rounds.
+pub record GoesOutInTime (s : ℕ) (x : List ℕ) (start row : List Station) (events : List Event) : Type 0 where
+  pub out : GoesOut s x row events
+  pub shown : Shows s x (out .exit) (out .lentExit) (out .answer)
   -- "no later than round 1 + A + L from its loading"
-  pub latest : roundsIn (out .before) (after (load s x) row) + 1 ≤ 1 + aheadIn row x + loadsAhead (bitsSent x) (out .before) (after (load s x) row)
+  pub latest : roundsSeen (out .before) + 1 ≤ 1 + aheadIn start x + loadsSeen x (out .before)
   -- "with no loading or withdrawal in exactly round A + 1"
-  pub exactly : Undisturbed (out .before) (after (load s x) row) → roundsIn (out .before) (after (load s x) row) + 1 ≡ aheadIn row x + 1
+  pub exactly : NoTrafficSeen (out .before) → roundsSeen (out .before) + 1 ≡ aheadIn start x + 1
 
 -- What becomes of it over any history of calls.
-pub data Outcome (s : ℕ) (x : List ℕ) (row : List Station) (calls : List Call) : Type 0 where
-  goesOut : GoesOutInTime s x row calls → Outcome s x row calls
-  isWithdrawn : TakenBack s (bitsSent x) calls (after (load s x) row) → Outcome s x row calls
-  stillWaits : WaitsAt s (bitsSent x) (afterAll calls (after (load s x) row))
-      → roundsIn calls (after (load s x) row) ≤ aheadIn row x + loadsAhead (bitsSent x) calls (after (load s x) row) → Outcome s x row calls
+pub data Outcome (s : ℕ) (x : List ℕ) (start row : List Station) (events : List Event) (exit : List Station) : Type 0 where
+  goesOut : GoesOutInTime s x start row events → Outcome s x start row events exit
+  isWithdrawn : TakenBack s x row events → Outcome s x start row events exit
+  stillWaits : WaitsAt s (bitsSent x) exit → roundsSeen events ≤ aheadIn start x + loadsSeen x events → Outcome s x start row events exit
 
-module _ (s : ℕ) (x : List ℕ) (row : List Station) (b : Bytes x) (t : taken (load s x) row ≡ true) where
-  ok : LoadTaken s x row
-  ok = load-taken s x row t
+module _ (s : ℕ) (x : List ℕ) (start : List Station) (b : Bytes x) {row : List Station} (loaded : LoadPromise s x start row Called.Done) where
+  -- The loading was answered with Done, and so it was taken.
+  pub loading-taken : taken (load s x) start ≡ true
+  unfolding taken
+  loading-taken = eq-eqb (numberOf (load s x) start) 0 (sym (loaded .answers-it))
 
-  here : WaitsAt s (bitsSent x) (after (load s x) row)
-  here = rw (load-waiting row s x t) (getD-set-same (waiting row) s (bitsSent x) [] (rw (waiting-length row) (ok .there)))
+  ok : LoadTaken s x start
+  ok = load-taken s x start loading-taken
+
+  here : WaitsAt s (bitsSent x) row
+  here =
+      rw (loaded .leaves-it, load-waiting start s x loading-taken)
+      (getD-set-same (waiting start) s (bitsSent x) [] (rw (waiting-length start) (ok .there)))
 
   -- A is the same counted before the loading and after it
-  own : aheadNow (bitsSent x) (after (load s x) row) ≡ aheadIn row x
-  own = rw (load-waiting row s x t) (own-count (bitsSent x) (waiting row) s (waiting-at row s ∙ empty-none (stationAt row s) (ok .free)))
+  own : aheadNow (bitsSent x) row ≡ aheadIn start x
+  own =
+      rw (loaded .leaves-it, load-waiting start s x loading-taken)
+      (own-count (bitsSent x) (waiting start) s (waiting-at start s ∙ empty-none (stationAt start s) (ok .free)))
 
-  in-time : (calls : List Call) → GoesOut s (bitsSent x) calls (after (load s x) row) → GoesOutInTime s x row calls
-  in-time calls g =
+  in-time : (events : List Event) → GoesOut s x row events → GoesOutInTime s x start row events
+  in-time events g =
       record {
         out = g;
-        sent = sent s x (g .lent) (afterAll (g .before) (after (load s x) row)) b (ok .some) (ok .few) (g .played) (g .held) (g .wins);
+        shown = shows s x b (ok .some) (ok .few) (g .keeps) (g .played) (g .held) (g .wins);
         latest = omega (arith, own, g .latest);
         exactly = λ u. omega (arith, own, g .exactly u);
       }
 
   -- A loaded message goes out in time, or is withdrawn while it waits, or still waits and its time is not yet over.
-  pub outcome : (calls : List Call) → Outcome s x row calls
-  outcome calls = go (fate s (bitsSent x) (sent-some x) calls (after (load s x) row) here)
+  pub outcome : {events : List Event} {exit : List Station} → Happens row events exit → Outcome s x start row events exit
+  outcome {events} {exit} h = go (fate s x h here)
     where
-      go : Fate s (bitsSent x) calls (after (load s x) row) → Outcome s x row calls
-      go (out g) = goesOut (in-time calls g)
+      go : Fate s x row events exit → Outcome s x start row events exit
+      go (out g) = goesOut (in-time events g)
       go (withdrawn w) = isWithdrawn w
-      go (waits h l) = stillWaits h (omega (arith, own))
+      go (waits f l) = stillWaits f (omega (arith, own))
 
-  -- WAITING ENDS. Once there have been 1 + A + L rounds, a message that was not withdrawn has gone out, in time.
-  pub waiting-ends : (calls : List Call) → NotWithdrawn s calls (after (load s x) row)
-      → 1 + aheadIn row x + loadsAhead (bitsSent x) calls (after (load s x) row) ≤ roundsIn calls (after (load s x) row)
-      → GoesOutInTime s x row calls
-  waiting-ends calls n l = go (outcome calls)
+  -- WAITING ENDS. Whatever calls follow the loading, and whatever they answer, so long as each keeps its promise: once 1 + A + L
+  -- of the rounds have been played, and no withdrawal from the place was accepted, the message has gone out, in time.
+  pub waiting-ends : {events : List Event} {exit : List Station} → Happens row events exit → NoWithdrawalSeen s events
+      → 1 + aheadIn start x + loadsSeen x events ≤ roundsSeen events → GoesOutInTime s x start row events
+  waiting-ends {events} {exit} h n l = go (outcome h)
     where
-      go : Outcome s x row calls → GoesOutInTime s x row calls
+      go : Outcome s x start row events exit → GoesOutInTime s x start row events
       go (goesOut g) = g
-      go (isWithdrawn w) = absurd (kept s (w .before) (w .later) (after (load s x) row) (rw (w .parts) at n) (w .accepted))
-      go (stillWaits h k) = absurd (omega arith)
+      go (isWithdrawn w) = absurd (kept s (w .before) (w .later) (w .answer) (rw (w .parts) at n) (w .accepted))
+      go (stillWaits f k) = absurd (omega arith)
 
-  -- EXACTLY ROUND A + 1. Where nothing is loaded or withdrawn, it goes out in that round.
-  pub exact-round : (calls : List Call) → Undisturbed calls (after (load s x) row) → aheadIn row x + 1 ≤ roundsIn calls (after (load s x) row)
-      → (g : GoesOutInTime s x row calls) × (roundsIn (g .out .before) (after (load s x) row) + 1 ≡ aheadIn row x + 1)
-  exact-round calls u l =
-      let g = waiting-ends calls (undisturbed-kept s calls (after (load s x) row) u) (omega (arith, undisturbed-loads (bitsSent x) calls (after (load s x) row) u)) in
-      (g, g .exactly (undisturbed-before (g .out .before) (round (g .out .lent) ∷ g .out .later) (after (load s x) row) (rw (g .out .parts) at u)))
+  -- EXACTLY ROUND A + 1. Where no loading or withdrawal was accepted, it goes out in that round.
+  pub exact-round : {events : List Event} {exit : List Station} → Happens row events exit → NoTrafficSeen events → aheadIn start x + 1 ≤ roundsSeen events
+      → (g : GoesOutInTime s x start row events) × (roundsSeen (g .out .before) + 1 ≡ aheadIn start x + 1)
+  exact-round {events} h u l =
+      let g = waiting-ends h (quiet-kept s events u) (omega (arith, quiet-loads x events u)) in
+      (g, g .exactly (quiet-before (g .out .before) (plays (g .out .lent) (g .out .lentExit) (g .out .answer) ∷ g .out .later) (rw (g .out .parts) at u)))

@@ -18,7 +18,6 @@ use Rattle.bench.specs.Stations.{mostStored, blank}
 use Rattle.bench.specs.Round.{asked, shortest, longest, onLine, play}
 use Rattle.bench.specs.Contest.{pulsesOf, sofsAsked, sumOf, contestOf, roundOf, afterFares}
 use Rattle.bench.specs.Calls.{load, round, allSound, allEmpty, numberOf, taken, done, after}
-use Rattle.bench.specs.Histories.{afterAll}
 
 -- a station that holds a message
 abbrev pub holds : Clock → List ℕ → Station
@@ -83,13 +82,13 @@ unfolding goOut roundOf contestOf play asked shortest longest onLine classOf pul
 first-out = refl
 
 -- FF FF in round 2 ..
-pub second-out : goOut (afterAll (round words ∷ []) three) ≡ false ∷ false ∷ true ∷ []
-unfolding goOut afterAll after taken numberOf done afterFares allSound allEmpty goodOf roundOf contestOf play asked shortest longest onLine classOf pulsesOf sofsAsked sumOf bitsOf checkOf registerFrom stepOf
+pub second-out : goOut (after (round words) three) ≡ false ∷ false ∷ true ∷ []
+unfolding goOut after taken numberOf done afterFares allSound allEmpty goodOf roundOf contestOf play asked shortest longest onLine classOf pulsesOf sofsAsked sumOf bitsOf checkOf registerFrom stepOf
 second-out = refl
 
 -- .. and FF in round 3.
-pub third-out : goOut (afterAll (round words ∷ round words ∷ []) three) ≡ false ∷ true ∷ false ∷ []
-unfolding goOut afterAll after taken numberOf done afterFares allSound allEmpty goodOf roundOf contestOf play asked shortest longest onLine classOf pulsesOf sofsAsked sumOf bitsOf checkOf registerFrom stepOf
+pub third-out : goOut (after (round words) (after (round words) three)) ≡ false ∷ true ∷ false ∷ []
+unfolding goOut after taken numberOf done afterFares allSound allEmpty goodOf roundOf contestOf play asked shortest longest onLine classOf pulsesOf sofsAsked sumOf bitsOf checkOf registerFrom stepOf
 third-out = refl
 
 -- "11 bytes are taken, 12 refused with 37. 101 words are enough, 100 give 32."
