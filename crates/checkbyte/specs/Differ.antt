@@ -55,7 +55,7 @@ register-same r s (b ∷ bs) hr hs hb e =
     step-same-register r s b hr hs (hb .0) (register-same (stepOf r b) (stepOf s b) bs (step-lt r b) (step-lt s b) (hb .1) e)
 
 -- Two messages of the same length that differ in one byte have different check bytes: if the check bytes are equal, so is
--- the byte between what stands before it and what stands behind it.
+-- the byte between what stands before it and what stands after it.
 pub check-differs : (before behind : List ℕ) (x y : ℕ) → x < 256 → y < 256 → Bytes behind
     → checkOf (before ++ (x ∷ behind)) ≡ checkOf (before ++ (y ∷ behind)) → x ≡ y
 unfolding checkOf registerFrom
