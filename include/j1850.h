@@ -1,6 +1,6 @@
 /*
- * Sintugapon for C: volts to intervals, reading and writing the frames of SAE J1850 VPW, whole recordings or an interval
- * at a time, contests of up to 32 stations on the line, and the text of the support desk.
+ * Sintugapon for C: volts to intervals, reading (decoding) and writing the frames of SAE J1850 VPW, whole recordings or an
+ * interval at a time, arbitration among up to 32 stations on the line, and the text of the support desk.
  *
  * Every answer but j1850_live_start's, which is the reader, begins with a number: 0 where the call was done, document 01's
  * number of what reading found, or the number of a refusal: document 01's 31 to 42, document 02's 51, the desk's own 61. A
@@ -108,7 +108,7 @@ typedef struct {
                         interval at fault */
     size_t opening;  /* 0 and 2: where the frame opens */
     size_t main;     /* 0: how many main bytes stand first in the lent bytes, their check byte included */
-    size_t response; /* 0: how many response bytes stand behind them, a checked response's check byte included */
+    size_t response; /* 0: how many response bytes stand after them, a checked response's check byte included */
 } j1850_read_answer;
 
 typedef struct {
@@ -117,7 +117,7 @@ typedef struct {
     uint64_t next;    /* where reading goes on: 0 the closing end; 11 to 20 the interval at fault; otherwise 0 */
     uint64_t opening; /* 0: where the frame opens; otherwise 0 */
     size_t main;      /* 0: how many main bytes stand first in the lent bytes, their check byte included */
-    size_t response;  /* 0: how many response bytes stand behind them, a checked response's check byte included */
+    size_t response;  /* 0: how many response bytes stand after them, a checked response's check byte included */
 } j1850_heard_answer;
 
 typedef struct {
@@ -132,7 +132,7 @@ typedef struct {
 
 typedef struct {
     uint32_t fared; /* J1850_IDLE, J1850_THROUGH or J1850_LOST */
-    size_t bit;     /* lost: at which bit, counted from 1 behind the SOF; otherwise 0 */
+    size_t bit;     /* lost: at which bit, counted from 1 after the SOF; otherwise 0 */
 } j1850_verdict;
 
 typedef struct {
@@ -148,7 +148,7 @@ typedef struct {
     size_t length;   /* 0 and 62: how many bytes of text were written, from the first on; the bytes past them stay */
 } j1850_desk_answer;
 
-/* The check byte that is sent behind these bytes. */
+/* The check byte that is sent after these bytes. */
 j1850_check_answer j1850_check_byte(const uint8_t *bytes, size_t length);
 
 /* The symbol of an interval of this width, in microseconds, on an active or a passive line. */
@@ -183,7 +183,7 @@ j1850_live j1850_live_start(void);
 /* Hears the next interval of a recording, of this width in microseconds: the first is passive, the next active, and so on.
    The frames and faults, with their places, are those of j1850_read on the whole recording from 0 on, each told at the
    interval that decides it: a frame at its closing end, a fault at the interval at fault. Only number 0 writes to the lent
-   bytes, and these need not be the same ones from call to call. Refusals, the first that applies: 51 an interval behind
+   bytes, and these need not be the same ones from call to call. Refusals, the first that applies: 51 an interval after
    place 2^64 - 1; 32 under 12 lent bytes, on any interval. A refused interval is not heard. */
 j1850_heard_answer j1850_hear(j1850_live *live, uint32_t width, uint8_t *bytes, size_t length);
 
@@ -205,9 +205,9 @@ j1850_call_answer j1850_withdraw(j1850_station *row, size_t row_length, size_t p
    outside the sending windows. */
 j1850_call_answer j1850_set_clock(j1850_station *row, size_t row_length, size_t place, j1850_clock clock);
 
-/* Plays a round: all stations that hold a message begin together, whoever asks for another bit than the one on the line
-   stops, and those that get through become empty. The intervals of the line go into the lent words; lend 101. Refusals, the
-   first that applies: 38 and 39 as for j1850_load; 32 under 101 words; 42 nobody holds a message. */
+/* Plays a round of arbitration: all stations that hold a message begin together, whoever asks for another bit than the one
+   on the line stops, and those that get through become empty. The intervals of the line go into the lent words; lend 101.
+   Refusals, the first that applies: 38 and 39 as for j1850_load; 32 under 101 words; 42 nobody holds a message. */
 j1850_round_answer j1850_round(j1850_station *row, size_t row_length, uint32_t *words, size_t words_length);
 
 /* The desk's text for a recording: the input is a line `own`, customer, vehicle, and a line `iv`, width, for each interval,

@@ -1,6 +1,6 @@
 /*
- * Every call of the library, from C. It reads a recording, whole and an interval at a time, writes a message, plays a contest
- * of three stations and prints the desk's text; examples/expected.txt is what it prints.
+ * Every call of the library, from C. It reads a recording, whole and an interval at a time, writes a message, plays the
+ * arbitration of three stations and prints the desk's text; examples/expected.txt is what it prints.
  *
  *   cc -std=c11 -I include examples/c/example.c target/library/libj1850.a -o example && ./example examples/truck.txt
  */
@@ -151,14 +151,14 @@ static void writing(void) {
     put_answer(j1850_read(words, written.count, 0, bytes, sizeof bytes), bytes);
 }
 
-/* A station of the contest: its name, and the message that it sends. */
+/* A station of the row: its name, and the message that it sends. */
 typedef struct {
     const char *name;
     uint8_t message[5];
     size_t length;
 } sender;
 
-/* Why a station lost at a bit, counted from 1 behind the SOF: its own bit there, or that it has none. */
+/* Why a station lost at a bit, counted from 1 after the SOF: its own bit there, or that it has none. */
 static void put_loss(sender who, size_t bit) {
     uint8_t sent[6];
     memcpy(sent, who.message, who.length);
@@ -190,7 +190,7 @@ static void one_round(int number, const sender *senders, j1850_station *row) {
     put_answer(j1850_read(words, round.words, 0, bytes, sizeof bytes), bytes);
 }
 
-static void contest(void) {
+static void arbitration(void) {
     const j1850_clock fast = {49, 112, 182};
     const sender senders[3] = {
         {"engine", {0x48, 0x6B, 0x10}, 3},
@@ -236,7 +236,7 @@ int main(int count, char **arguments) {
     reading(widths, intervals);
     hearing(widths, intervals);
     writing();
-    contest();
+    arbitration();
     desk(input, length);
     free(input);
     return 0;

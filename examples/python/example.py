@@ -1,5 +1,5 @@
-"""Every call of the library, from Python: reads a recording, whole and an interval at a time, writes a message, plays a contest
-of three stations and prints the desk's text. examples/expected.txt is what it prints.
+"""Every call of the library, from Python: reads a recording, whole and an interval at a time, writes a message, plays the
+arbitration of three stations and prints the desk's text. examples/expected.txt is what it prints.
 
     python3 examples/python/example.py target/library/libj1850.so examples/truck.txt
 """
@@ -81,7 +81,7 @@ def writing(line):
 
 
 def loss(line, message, bit):
-    """Why a station lost at a bit, counted from 1 behind the SOF: its own bit there, or that it has none."""
+    """Why a station lost at a bit, counted from 1 after the SOF: its own bit there, or that it has none."""
     sent = message + bytes([line.check_byte(message)])
     if bit > 8 * len(sent):
         return "it had sent its check byte, and the line went on"
@@ -104,7 +104,7 @@ def one_round(line, number, senders, row):
     print(told(*line.read(words, 0)))
 
 
-def contest(line):
+def arbitration(line):
     # the dash's message begins with all the bits of the brakes' frame, and goes on
     senders = [("engine", bytes.fromhex("486B10")), ("brakes", bytes.fromhex("08FF")), ("dash", bytes.fromhex("08FF2010"))]
     row = j1850.row_of([j1850.nominal()] * 3)
@@ -133,7 +133,7 @@ def main():
     reading(line, widths)
     hearing(line, widths)
     writing(line)
-    contest(line)
+    arbitration(line)
     desk(line, data)
 
 

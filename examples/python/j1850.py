@@ -122,7 +122,7 @@ def lent(element, values):
     return (element * len(values))(*values), len(values)
 
 
-def room(element, count):
+def zeros(element, count):
     return (element * count)(), count
 
 
@@ -151,19 +151,19 @@ class Library:
 
     def intervals(self, gate, samples):
         """The intervals of a trace."""
-        words, count = room(c_uint32, len(samples) + 1)
+        words, count = zeros(c_uint32, len(samples) + 1)
         answer = self.call("intervals", gate, *lent(c_float, samples), words, count)
         return words[: answer.count]
 
     def write(self, clock, main, kind=WITHOUT, response=b""):
         """The intervals of a message's frame."""
-        words, count = room(c_uint32, 101)
+        words, count = zeros(c_uint32, 101)
         answer = self.call("write", clock, *lent(c_uint8, main), kind, *lent(c_uint8, response), words, count)
         return words[: answer.count]
 
     def read(self, intervals, position):
         """The answer, the main bytes and the response bytes."""
-        data, count = room(c_uint8, 12)
+        data, count = zeros(c_uint8, 12)
         answer = self.call("read", *lent(c_uint32, intervals), position, data, count, fine=(0, 1, 2, *range(11, 21)))
         main = bytes(data[: answer.main])
         return answer, main, bytes(data[answer.main : answer.main + answer.response])
@@ -174,7 +174,7 @@ class Library:
 
     def hear(self, live, width):
         """The answer to the next interval, whose number is UNDECIDED where it decides nothing, the main bytes and the response bytes."""
-        data, count = room(c_uint8, 12)
+        data, count = zeros(c_uint8, 12)
         answer = self.call("hear", byref(live), width, data, count, fine=(0, UNDECIDED, *range(11, 21)))
         main = bytes(data[: answer.main])
         return answer, main, bytes(data[answer.main : answer.main + answer.response])
@@ -194,12 +194,12 @@ class Library:
 
     def round(self, row):
         """The answer, and the intervals of the line."""
-        words, count = room(c_uint32, 101)
+        words, count = zeros(c_uint32, 101)
         answer = self.call("round", row, len(row), words, count)
         return answer, words[: answer.words]
 
     def desk(self, data):
         """The answer, whose number is 0 or 62, and the text."""
-        words, text = room(c_uint32, DESK_WORDS), room(c_uint8, DESK_TEXT)
+        words, text = zeros(c_uint32, DESK_WORDS), zeros(c_uint8, DESK_TEXT)
         answer = self.call("desk", *lent(c_uint8, data), *words, *text, fine=(0, 62))
         return answer, bytes(text[0][: answer.length])

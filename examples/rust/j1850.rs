@@ -119,7 +119,7 @@ mod library;
 
 // Each call below hands over slices that Rust lends for the length of the call, and the library touches nothing else.
 
-/// The check byte that is sent behind these bytes.
+/// The check byte that is sent after these bytes.
 pub fn check_byte(bytes: &[u8]) -> u8 {
     unsafe { library::j1850_check_byte(bytes.as_ptr(), bytes.len()) }.check
 }

@@ -1,5 +1,5 @@
-//! Every call of the library, from Rust: reads a recording, whole and an interval at a time, writes a message, plays a contest
-//! of three stations and prints the desk's text. examples/expected.txt is what it prints.
+//! Every call of the library, from Rust: reads a recording, whole and an interval at a time, writes a message, plays the
+//! arbitration of three stations and prints the desk's text. examples/expected.txt is what it prints.
 //!
 //!   rustc --edition 2021 -L target/library -l static=j1850 examples/rust/main.rs -o example && ./example examples/truck.txt
 
@@ -95,7 +95,7 @@ fn writing() -> Result<(), u32> {
     Ok(())
 }
 
-/// Why a station lost at a bit, counted from 1 behind the SOF: its own bit there, or that it has none.
+/// Why a station lost at a bit, counted from 1 after the SOF: its own bit there, or that it has none.
 fn loss(message: &[u8], bit: usize) -> String {
     let mut sent = message.to_vec();
     sent.push(j1850::check_byte(message));
@@ -130,7 +130,7 @@ fn one_round(number: usize, senders: &[(&str, &[u8])], row: &mut [Station]) -> R
     Ok(())
 }
 
-fn contest() -> Result<(), u32> {
+fn arbitration() -> Result<(), u32> {
     // the dash's message begins with all the bits of the brakes' frame, and goes on
     let senders: [(&str, &[u8]); 3] = [("engine", &[0x48, 0x6B, 0x10]), ("brakes", &[0x08, 0xFF]), ("dash", &[0x08, 0xFF, 0x20, 0x10])];
     let mut row = [j1850::station(NOMINAL); 3];
@@ -163,7 +163,7 @@ fn all(input: &str) -> Result<(), u32> {
     reading(&widths)?;
     hearing(&widths)?;
     writing()?;
-    contest()?;
+    arbitration()?;
     desk(input.as_bytes())
 }
 

@@ -74,7 +74,7 @@ fn write_pass(write: Write, messages: &[(Vec<u8>, u32, Vec<u8>)]) -> usize {
     sum
 }
 
-/// Good and damaged frames, one behind the other.
+/// Good and damaged frames, one after the other.
 fn recording(length: usize) -> Vec<u32> {
     let mut random = Random::new(5);
     let mut line = Vec::new();

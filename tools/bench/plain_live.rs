@@ -36,7 +36,7 @@ pub fn start() -> Live {
 
 /// What an interval decides in a frame, its answer written.
 fn judge(reader: &mut Reader, opening: u64, place: u64, symbol: Symbol, bytes: &mut [u8]) -> Heard {
-    // An active SOF's width is fault 15 anywhere behind the SOF's place.
+    // An active SOF's width is fault 15 anywhere after the SOF's place.
     if symbol == Symbol::SofOrEod && place % 2 == 1 && reader.phase != Phase::Sof {
         return bare(15, place);
     }

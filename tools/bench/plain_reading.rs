@@ -157,7 +157,7 @@ pub fn read(intervals: &[u32], from: usize, bytes: &mut [u8]) -> Read {
     let mut reader = Reader::new();
     for (place, width) in intervals.iter().enumerate().skip(opening + 1) {
         let symbol = class(place % 2 == 1, *width);
-        // An active SOF's width is fault 15 anywhere behind the SOF's place.
+        // An active SOF's width is fault 15 anywhere after the SOF's place.
         if symbol == Symbol::SofOrEod && place % 2 == 1 && place > opening + 1 {
             return bare(15, place, 0);
         }

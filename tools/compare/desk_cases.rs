@@ -59,7 +59,7 @@ fn frame(main: &[u8], kind: u32, response: &[u8], replaced: &[(usize, u32)]) -> 
     words[..answer.count].to_vec()
 }
 
-/// A recording for each answer that reading has, by itself, behind intervals that open nothing and in front of a frame.
+/// A recording for each answer that reading has, by itself, after intervals that open nothing and before a frame.
 fn kinds(trial: &mut Trial) {
     let one = frame(&[0x12], 0, &[], &[]);
     let two = frame(&[0x12, 0x34], 0, &[], &[]);
@@ -119,9 +119,9 @@ fn first_lines(trial: &mut Trial) {
 fn later_lines(trial: &mut Trial) {
     for line in LATER.split('|') {
         for before in [0, 2, 100] {
-            for behind in ["", "\n", "\niv\t64\niv\t64\n", "\niv\t64\niv\n"] {
+            for rest in ["", "\n", "\niv\t64\niv\t64\n", "\niv\t64\niv\n"] {
                 let front = "iv\t64\n".repeat(before);
-                trial.desk(format!("own\tc\tv\n{front}{line}{behind}").as_bytes());
+                trial.desk(format!("own\tc\tv\n{front}{line}{rest}").as_bytes());
             }
         }
     }
@@ -156,12 +156,12 @@ fn every_byte(trial: &mut Trial) {
             "own\tc\tv\niv\t3",
             "own\tc\tv\n",
         ] {
-            let behind: &[u8] = if before.len() == 5 {
+            let rest: &[u8] = if before.len() == 5 {
                 b"\tv\n"
             } else {
                 b"\niv\t5\n"
             };
-            trial.desk(&[before.as_bytes(), &[byte], behind].concat());
+            trial.desk(&[before.as_bytes(), &[byte], rest].concat());
         }
     }
 }

@@ -42,7 +42,7 @@ fn clock(random: &mut Random) -> Clock {
     }
 }
 
-/// A message that is like another: the same, its beginning, itself with its check byte behind it, one bit away from it.
+/// A message that is like another: the same, its beginning, itself with its check byte after it, one bit away from it.
 fn like(random: &mut Random, other: &[u8]) -> Vec<u8> {
     let mut message = other.to_vec();
     match random.below(6) {

@@ -105,7 +105,7 @@ fn push_part(random: &mut Random, line: &mut Vec<u32>, length: usize) {
     }
 }
 
-/// Lays a frame behind a line. An end that stands last at an even place opens it; otherwise there is a new opening.
+/// Lays a frame after a line. An end that stands last at an even place opens it; otherwise there is a new opening.
 pub fn push_frame(random: &mut Random, line: &mut Vec<u32>) {
     if line.len() % 2 == 0 {
         let opening = an_end(random);
@@ -125,12 +125,12 @@ pub fn push_frame(random: &mut Random, line: &mut Vec<u32>) {
         let short = random.once_in(2);
         let normalization = short_or_long(random, short);
         line.extend([eod, normalization]);
-        let room = if random.once_in(6) {
+        let free = if random.once_in(6) {
             14
         } else {
             13usize.saturating_sub(main)
         };
-        let response = random.below(room + 1);
+        let response = random.below(free + 1);
         push_part(random, line, response);
         if random.once_in(8) && line.len() % 2 == 0 {
             let again = sof_or_eod(random);

@@ -40,7 +40,7 @@ fn start(trial: &mut Trial) {
     }
 }
 
-/// Hears an interval and asks before and behind it.
+/// Hears an interval and asks before and after it.
 fn hear_and_ask(trial: &mut Trial, readers: &mut Readers, width: u32) {
     trial.ask(readers);
     trial.hear(readers, width, 12);
@@ -100,7 +100,7 @@ fn places(trial: &mut Trial) {
     }
 }
 
-/// Frames that close before the last place, at it or behind it, and what follows: the last place is heard, and then no more.
+/// Frames that close before the last place, at it or after it, and what follows: the last place is heard, and then no more.
 fn last_places(trial: &mut Trial) {
     for shape in SHAPES {
         let mut line = frame(trial, NOMINAL, shape);
@@ -119,7 +119,7 @@ fn last_places(trial: &mut Trial) {
     }
 }
 
-/// Each interval of each frame replaced by a width of each window, and a frame behind it.
+/// Each interval of each frame replaced by a width of each window, and a frame after it.
 fn replaced(trial: &mut Trial) {
     for shape in SHAPES {
         let first = frame(trial, NOMINAL, shape);

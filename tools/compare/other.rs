@@ -100,7 +100,7 @@ pub fn write(
     plain_write(clock, main, kind, response, words)
 }
 
-/// Writing by document 01. A kind that is none of the three is what j1850.h says: 37, behind 36.
+/// Writing by document 01. A kind that is none of the three is what j1850.h says: 37, after 36.
 pub fn plain_write(
     clock: Clock,
     main: &[u8],

@@ -1,4 +1,4 @@
-//! Rows: document 01's own cases and each refusal with each that competes with it, then contests of two and of many.
+//! Rows: document 01's own cases and each refusal with each that competes with it, then rounds of two stations and of many.
 
 use crate::check::with_check;
 use crate::ours::{Clock, Station, Verdict};

@@ -7,7 +7,7 @@ use crate::tally::Tally;
 use crate::wrong::Wrong;
 use std::fmt::Debug;
 
-/// Words and bytes that stand before and behind the lent ones and may not change.
+/// Words and bytes that stand before and after the lent ones and may not change.
 pub const AROUND: usize = 8;
 
 pub struct Trial {

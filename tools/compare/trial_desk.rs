@@ -4,7 +4,7 @@ use crate::other_row::{self, DESK_BYTES, DESK_WORDS};
 use crate::ours::{self, Desk};
 use crate::trial::{differ, told, Trial, AROUND};
 
-/// The number behind a word of the column `kind`.
+/// The number of a word of the column `kind`.
 fn kind_number(kind: &str) -> Option<u32> {
     match kind {
         "frame" => Some(0),

@@ -24,13 +24,13 @@ pub struct Readers {
     heard: Vec<u32>,
 }
 
-/// A reader of the library with other words before and behind it.
+/// A reader of the library with other words before and after it.
 #[repr(C)]
 #[derive(Clone, Copy, PartialEq, Debug)]
-struct Room {
+struct Padded {
     before: [u64; AROUND],
     live: Live,
-    behind: [u64; AROUND],
+    after: [u64; AROUND],
 }
 
 impl Readers {
@@ -64,12 +64,12 @@ impl Readers {
 
 impl Trial {
     /// The library's reader at another place of the memory.
-    fn room(&mut self, live: Live) -> Room {
+    fn padded(&mut self, live: Live) -> Padded {
         let mut around = || std::array::from_fn(|_| self.random.next());
-        Room {
+        Padded {
             before: around(),
             live,
-            behind: around(),
+            after: around(),
         }
     }
 
@@ -77,9 +77,9 @@ impl Trial {
     pub fn hear(&mut self, readers: &mut Readers, width: u32, lent: usize) -> (Heard, Vec<u8>) {
         let bytes = self.bytes(lent);
         let (mut my_bytes, mut their_bytes) = (bytes.clone(), bytes);
-        let before = self.room(readers.mine);
-        let mut room = before;
-        let mine = ours::hear(&mut room.live, width, &mut my_bytes[AROUND..AROUND + lent]);
+        let before = self.padded(readers.mine);
+        let mut padded = before;
+        let mine = ours::hear(&mut padded.live, width, &mut my_bytes[AROUND..AROUND + lent]);
         let their_lent = &mut their_bytes[AROUND..AROUND + lent];
         let theirs = other_live::hear(self.wrong, &mut readers.theirs, width, their_lent);
         self.tally.count("hear", mine.number);
@@ -89,16 +89,16 @@ impl Trial {
         let refused = mine.number == 32 || mine.number == 51;
         let mut wanted = before;
         if !refused {
-            wanted.live = room.live;
+            wanted.live = padded.live;
         }
-        if mine != theirs || my_bytes != their_bytes || room != wanted {
+        if mine != theirs || my_bytes != their_bytes || padded != wanted {
             let [began, heard] = readers.case();
             let case = [
                 began,
                 heard,
                 ("width", width.to_string()),
                 ("lent", lent.to_string()),
-                ("reader", format!("before {before:?}, afterwards {room:?}")),
+                ("reader", format!("before {before:?}, afterwards {padded:?}")),
             ];
             let found = [
                 told(&mine, &my_bytes, &their_bytes),
@@ -106,7 +106,7 @@ impl Trial {
             ];
             differ(self.seed, "hear", &case, found);
         }
-        readers.mine = room.live;
+        readers.mine = padded.live;
         if !refused {
             readers.heard.push(width);
         }
@@ -114,16 +114,16 @@ impl Trial {
     }
 
     pub fn ask(&mut self, readers: &mut Readers) -> Asked {
-        let room = self.room(readers.mine);
-        let mut lent = room;
+        let padded = self.padded(readers.mine);
+        let mut lent = padded;
         let (mine, theirs) = (
             asked_of(&mut lent),
             other_live::ask(self.wrong, &mut readers.theirs),
         );
         self.tally.count("ask", mine.number);
-        if mine != theirs || lent != room {
+        if mine != theirs || lent != padded {
             let [began, heard] = readers.case();
-            let reader = ("reader", format!("before {room:?}, afterwards {lent:?}"));
+            let reader = ("reader", format!("before {padded:?}, afterwards {lent:?}"));
             let found = [format!("{mine:?}"), format!("{theirs:?}")];
             differ(self.seed, "ask", &[began, heard, reader], found);
         }
@@ -173,14 +173,14 @@ impl Trial {
     /// the reader and the first 12 lent bytes changes. Answers the reader afterwards.
     pub fn hear_anything(&mut self, live: Live, width: u32, lent: usize) -> Live {
         let before = self.bytes(lent);
-        let room = self.room(live);
+        let padded = self.padded(live);
         let hear = || {
-            let (mut after, mut bytes) = (room, before.clone());
+            let (mut after, mut bytes) = (padded, before.clone());
             let answer = ours::hear(&mut after.live, width, &mut bytes[AROUND..AROUND + lent]);
             (answer, after, bytes)
         };
         let (answer, after, bytes) = hear();
-        let mut wanted = (room, before.clone());
+        let mut wanted = (padded, before.clone());
         let number = match (live.inner[FULL], lent) {
             (1.., _) => Some(51),
             (0, ..12) => Some(32),
@@ -208,30 +208,30 @@ impl Trial {
             differ(self.seed, "hear, any reader", &case, found);
         }
         self.tally.note("any reader", answer.number);
-        self.ask_anything(room);
+        self.ask_anything(padded);
         after.live
     }
 
-    fn ask_anything(&mut self, room: Room) {
-        let mut lent = room;
+    fn ask_anything(&mut self, padded: Padded) {
+        let mut lent = padded;
         let answer = asked_of(&mut lent);
         let right = match answer.number {
             1 => answer.opening == 0,
             2 => answer.opening == answer.next,
             _ => false,
         };
-        let same = lent == room && asked_of(&mut lent) == answer;
+        let same = lent == padded && asked_of(&mut lent) == answer;
         if !right || !same {
-            let found = [format!("{answer:?}, {lent:?}"), format!("{room:?}")];
+            let found = [format!("{answer:?}, {lent:?}"), format!("{padded:?}")];
             differ(self.seed, "ask, any reader", &[], found);
         }
     }
 }
 
 /// What the library answers about a reader that it is lent to read. The compiler takes memory lent for reading to stay as it
-/// is: behind a black box it cannot know whose memory this is, so that a comparison afterwards looks at it again.
-fn asked_of(room: &mut Room) -> Asked {
-    ours::ask(&black_box(room).live)
+/// is: through a black box it cannot know whose memory this is, so that a comparison afterwards looks at it again.
+fn asked_of(padded: &mut Padded) -> Asked {
+    ours::ask(&black_box(padded).live)
 }
 
 /// What the library answers on a whole recording, its places counted from one on, and with what it ends.

@@ -7,9 +7,9 @@ use crate::random::Random;
 use crate::trial::{differ, shown, told, Trial, AROUND};
 use std::fmt::Debug;
 
-/// Stations that stand before and behind a row and may not change. Those behind are enough to lend 33 with any row.
+/// Stations that stand before and after a row and may not change. Those after it are enough to lend 33 with any row.
 const BEFORE: usize = 2;
-const BEHIND: usize = 34;
+const AFTER: usize = 34;
 
 /// A row of stations with others around it, and how many of them are lent to a call.
 #[derive(Clone)]
@@ -33,9 +33,9 @@ impl Row {
             };
             (0..count).map(one).collect()
         };
-        let (before, behind) = (around(BEFORE), around(BEHIND));
+        let (before, after) = (around(BEFORE), around(AFTER));
         Row {
-            all: [before.as_slice(), stations, &behind].concat(),
+            all: [before.as_slice(), stations, &after].concat(),
             lent: stations.len(),
         }
     }

@@ -51,7 +51,7 @@ impl Watch {
         watch
     }
 
-    /// A message, its check byte behind it, with the number of different ones that are ahead of it now.
+    /// A message, its check byte after it, with the number of different ones that are ahead of it now.
     fn loaded_now(&self, sent: &[u8]) -> Waiting {
         let all = self.0.iter().flatten().map(|waiting| &waiting.bytes);
         let mut before: Vec<&Vec<u8>> = all.filter(|other| ahead(other, sent)).collect();

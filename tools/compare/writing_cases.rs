@@ -122,10 +122,10 @@ fn round_trip(trial: &mut Trial, clock: Clock, main: &[u8], kind: u32, response:
         return;
     }
     let front = in_front(trial);
-    let behind: Vec<u32> = (0..trial.random.below(3))
+    let rest: Vec<u32> = (0..trial.random.below(3))
         .map(|_| trial.random.next() as u32)
         .collect();
-    let line = [front.as_slice(), &words, &behind].concat();
+    let line = [front.as_slice(), &words, &rest].concat();
     // The words are the same from both programs, as Trial::write has seen; so each reads what the other wrote.
     let mut bytes = [0; 12];
     let by_second = plain_read(&line, 0, &mut bytes);

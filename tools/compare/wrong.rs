@@ -193,7 +193,7 @@ variants! {
         LinesFromZero "lines-counted-from-0"
         EmptyIsLineZero "empty-input-is-line-0"
         LastLineNamed "last-line-named"
-        RefusedBehindHeader "refusal-behind-a-header"
+        RefusedAfterHeader "refusal-after-a-header"
         RefusedWordsKept "no-words-from-a-bad-input"
         HeaderLeftOut "header-left-out"
         LabelsExchanged "labels-exchanged"

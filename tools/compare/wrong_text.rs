@@ -142,7 +142,7 @@ fn refusal(wrong: Wrong, input: &[u8], line: usize) -> (usize, String) {
     };
     let header = "customer\tvehicle\tat\tkind\tmain\tresponse\n";
     let before = match wrong {
-        Wrong::RefusedBehindHeader => header,
+        Wrong::RefusedAfterHeader => header,
         _ => "",
     };
     (line, format!("{before}refused\t{line}\n"))

@@ -234,8 +234,8 @@ static j1850_count_answer longest(uint32_t *words, size_t length) {
 /* A deliberately wrong call, which has to be caught. */
 static int wrong(const char *name) {
     static const uint8_t message[11];
-    static uint32_t room[101];
-    slice words = {room, 100, sizeof *room, true};
+    static uint32_t space[101];
+    slice words = {space, 100, sizeof *space, true};
     slice bytes = {message, 11, 1, false};
 
     if (strcmp(name, "past-the-end") == 0) { /* 101 words are claimed, and 100 lent */
@@ -245,11 +245,11 @@ static int wrong(const char *name) {
     } else if (strcmp(name, "read-past-the-end") == 0) {
         j1850_check_byte(lend(0, bytes, true), 12);
     } else if (strcmp(name, "written-input") == 0) { /* what is lent to be read is written */
-        void *input = lend(0, (slice){room, 101, sizeof *room, false}, true);
+        void *input = lend(0, (slice){space, 101, sizeof *space, false}, true);
         longest(input, 101);
     } else if (strcmp(name, "short-reader") == 0) { /* 7 words are lent as a live reader, which has 8 */
         uint8_t heard[12];
-        j1850_hear(lend(0, (slice){room, 7, sizeof(uint64_t), true}, true), 300, heard, sizeof heard);
+        j1850_hear(lend(0, (slice){space, 7, sizeof(uint64_t), true}, true), 300, heard, sizeof heard);
     } else if (strcmp(name, "beside") == 0) { /* the word past the lent ones can be touched, and is seen to be written */
         void *at = lend(0, words, false);
         longest(at, 101);
@@ -260,7 +260,7 @@ static int wrong(const char *name) {
         j1850_load(row, 1, 0, few, 11);
         free(few);
     } else if (strcmp(name, "sanitized-read") == 0) { /* the same: a word is read past those of the answer */
-        uint32_t *exact = malloc(sizeof room);
+        uint32_t *exact = malloc(sizeof space);
         j1850_count_answer r = longest(exact, 101);
         printf("%u\n", (unsigned)exact[r.count]);
         free(exact);

@@ -76,7 +76,7 @@ fn verdicts_due(row: &[Station], winner: &[bool]) -> [Verdict; PLACES] {
     due
 }
 
-/// Runs one round and compares everything it leaves behind with what is due.
+/// Runs one round and compares everything that it changes with what is due.
 fn one_round(tally: &mut Tally, name: &str, row: &mut [Station]) -> Result<Outcome, String> {
     let winner = foremost(row);
     let due = words_due(row, &winner);
@@ -107,7 +107,7 @@ fn one_round(tally: &mut Tally, name: &str, row: &mut [Station]) -> Result<Outco
     Ok(want)
 }
 
-/// Messages few enough to meet often, some of them another with its check byte behind it.
+/// Messages few enough to meet often, some of them another with its check byte after it.
 fn message(chance: &mut Chance) -> Vec<u8> {
     let choice: [&[u8]; 6] = [
         &[0xFF],

@@ -48,7 +48,7 @@ pub fn check(bytes: &[u8]) -> u8 {
     !register(bytes)
 }
 
-/// These bytes with their check byte behind them.
+/// These bytes with their check byte after them.
 pub fn with_check(bytes: &[u8]) -> Vec<u8> {
     [bytes, &[check(bytes)]].concat()
 }

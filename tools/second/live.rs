@@ -33,7 +33,7 @@ pub enum Asked {
 /// A reader that hears one interval after the other.
 #[derive(Clone, PartialEq, Eq, Debug)]
 pub struct Live {
-    /// The place of the next interval; nothing behind the last place that 64 bits can count.
+    /// The place of the next interval; none after the last place that 64 bits can count.
     pub next: Option<u64>,
     /// The next position of the last answer, 0 before there is one.
     pub from: u64,
@@ -62,8 +62,8 @@ impl Live {
 
     /// The opening among the kept intervals.
     fn opening(&self) -> Option<usize> {
-        let behind = self.from.saturating_sub(self.first);
-        opening_from(&self.kept, behind as usize)
+        let past = self.from.saturating_sub(self.first);
+        opening_from(&self.kept, past as usize)
     }
 
     /// Drops the kept intervals before one of them, which has to stay, and before the passive one with it.

@@ -148,7 +148,7 @@ fn some_recording(chance: &mut Chance) -> Vec<u32> {
 /// The places from which recordings are heard: the first, and others that 32 bits cannot count.
 const BEGINNINGS: [u64; 4] = [0, 1 << 32, (1 << 32) - 20, 1 << 63];
 
-/// The last places there are: an interval at the last of them is heard, and none behind it.
+/// The last places there are: an interval at the last of them is heard, and none after it.
 fn last_places(tally: &mut Tally, recording: &[u32]) -> Trial {
     for left in (2..=recording.len() as u64 + 2).step_by(2) {
         let began = u64::MAX - (left - 1);

@@ -49,8 +49,8 @@ pub fn order(input: &[u8]) -> Result<Order, usize> {
     let (customer, vehicle) = lines.next().and_then(own_line).ok_or(1usize)?;
     let mut recording = Vec::new();
     for (before, line) in lines.enumerate() {
-        let room = before < MOST_LINES;
-        let interval = iv_line(line).filter(|_| room);
+        let fits = before < MOST_LINES;
+        let interval = iv_line(line).filter(|_| fits);
         recording.push(interval.ok_or(before + 2)?);
     }
     Ok(Order {

@@ -23,7 +23,7 @@ const WORDS: usize = 16384;
 
 const PAGE: usize = 442463;
 
-// Room for the input.
+// Bytes for the input.
 fn room() -> [u8; ENOUGH]
     ensures { λ r. ⌜ 1 + mostInput ≡ length r ⌝ }
 {

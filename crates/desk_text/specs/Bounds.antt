@@ -105,7 +105,7 @@ module _ (customer vehicle : List ℕ) (c : length customer ≤ mostLabel) (v : 
     last-size p x i (isFault f n a b d g) e = never refl e
 
     -- A frame or a fault uses up two places or more, at 27 bytes each: its opening stands at an even place, and the next
-    -- opening cannot stand at the odd place behind it.
+    -- opening cannot stand at the odd place after it.
     record Uses (p : ℕ) (x : Outcome) : Type 0 where
       bytes : length (rowOf customer vehicle x) + 27 * (length ws - up (nextOf x)) ≤ 27 * (length ws - up p)
       places : 2 + (length ws - up (nextOf x)) ≤ length ws - up p

@@ -107,11 +107,11 @@ record Decides (n : ℕ) (s t : List ℕ) : Type 0 where
 abbrev firstOf : List ℕ → Line
 firstOf s = shut (take (indexOf newline s) s)
 
--- .. and what stands behind that newline
+-- .. and what stands after that newline
 abbrev restOf : List ℕ → List ℕ
 restOf s = drop (suc (indexOf newline s)) s
 
--- It is decided at line n, or at the lines behind it where line n is good.
+-- It is decided at line n, or at the lines after it where line n is good.
 line-decides : (n : ℕ) (s t : List ℕ) → 0 < n → 0 < length s → (n ≤ 1 + mostWidths → mostIv < length s)
     → (indexOf newline s < length s → ivAt n (firstOf s) ≡ true → Decides (n + 1) (restOf s) t) → Decides n s t
 unfolding badFrom
@@ -130,7 +130,7 @@ line-decides n s t p h k more = go (begins s h)
         }
     go (with-shut i e) = by i e (ivAt n (firstOf s)) refl
 
--- what stands behind a good line is at most 14 bytes less
+-- what stands after a good line is at most 14 bytes less
 rest-size : (n : ℕ) (s : List ℕ) → indexOf newline s < length s → ivAt n (firstOf s) ≡ true → length s ≤ 1 + mostIv + length (restOf s)
 unfolding ivAt
 rest-size n s i q =

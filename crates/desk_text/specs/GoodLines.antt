@@ -82,7 +82,7 @@ label-size l e =
     let b = both (leb 1 (length l)) (leb (length l) mostLabel) (a .0) in
     (leb-true 1 (length l) (b .0), leb-true (length l) mostLabel (b .1))
 
--- digits behind a number of k + 1 digits spell one of so many more
+-- digits after a number of k + 1 digits spell one of so many more
 spells-power : (k n : ℕ) (ds : List ℕ) → 10 ^ k ≤ n → 10 ^ (k + length ds) ≤ spells n ds
 unfolding spells
 spells-power k n [] h = rw (add-zero k) h

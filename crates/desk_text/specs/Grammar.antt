@@ -15,7 +15,7 @@ newline = 10
 abbrev pub tab : ℕ
 tab = 9
 
--- a byte in front of the first of several pieces
+-- a byte before the first of several pieces
 abbrev pub longer : ℕ → List (List ℕ) → List (List ℕ)
 longer x [] = (x ∷ []) ∷ []
 longer x (p ∷ ps) = (x ∷ p) ∷ ps
@@ -67,7 +67,7 @@ isLabel l = among 1 mostLabel (length l) && every labelByte l
 unfoldable pub digit : ℕ → Bool
 digit x = among 48 57 x
 
--- the number that digits spell, behind those that spell n
+-- the number that digits spell, after those that spell n
 unfoldable pub spells : ℕ → List ℕ → ℕ
 spells n [] = n
 spells n (x ∷ xs) = spells (n * 10 + (x - 48)) xs

@@ -21,7 +21,7 @@ shut l = record { bytes = l; closed = true }
 abbrev pub unshut : List ℕ → Line
 unshut l = record { bytes = l; closed = false }
 
--- a byte in front of the first line
+-- a byte before the first line
 abbrev pub onto : ℕ → List Line → List Line
 onto x [] = unshut (x ∷ []) ∷ []
 onto x (l ∷ ls) = record { bytes = x ∷ l .bytes; closed = l .closed } ∷ ls
@@ -79,12 +79,12 @@ firstBad (l ∷ ls) = cond (ownLine l) (badFrom 2 ls) 1
 
 -- ## What a good input says
 
--- the first line, and those behind it
+-- the first line, and those after it
 abbrev pub firstLine : List Line → Line
 firstLine [] = unshut []
 firstLine (l ∷ ls) = l
 
--- the lines behind the first
+-- the lines after the first
 abbrev pub laterLines : List Line → List Line
 laterLines [] = []
 laterLines (l ∷ ls) = ls

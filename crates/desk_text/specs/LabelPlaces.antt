@@ -1,4 +1,4 @@
--- Where the labels of a good input stand in its bytes: the customer's from byte 4 on, the vehicle's behind it and a tab.
+-- Where the labels of a good input stand in its bytes: the customer's from byte 4 on, the vehicle's after it and a tab.
 use Prim.Native.Nat.{ℕ, suc, _+_, _-_, _≤_, _<_}
 use mathlib.Core.Path.{_≡_, refl, sym, ap, _∙_}
 use mathlib.Core.List.{List, [], _∷_, _++_, append-assoc, append-nil}

@@ -1,4 +1,4 @@
--- The lines of the desk's text: behind the header each has six fields, and begins with this recording's own customer and
+-- The lines of the desk's text: after the header each has six fields, and begins with this recording's own customer and
 -- vehicle; what follows them is told of the recording alone.
 use Prim.Native.Nat.{ℕ, zero, suc, _+_, _*_, _/_, _%_, _≤_}
 use mathlib.Core.Path.{_≡_, refl, sym, ap, _∙_}
@@ -91,7 +91,7 @@ line-joined f (g ∷ gs) rest =
     append-assoc f (tab ∷ lineOf (g ∷ gs)) rest ∙ ap (λ (l : List ℕ). f ++ (tab ∷ l)) (line-joined g gs rest)
     ∙ sym (append-assoc f (tab ∷ joined tab (g ∷ gs)) (newline ∷ rest))
 
--- A line of fields is one line, and the lines behind it are those of what follows.
+-- A line of fields is one line, and the lines after it are those of what follows.
 line-behind : (f : List ℕ) (fs : List (List ℕ)) (rest : List ℕ) → All-plain (f ∷ fs) → lines (lineOf (f ∷ fs) ++ rest) ≡ shut (joined tab (f ∷ fs)) ∷ lines rest
 line-behind f fs rest h = ap lines (line-joined f fs rest) ∙ line-text (joined tab (f ∷ fs)) rest (fields-one-line f fs h)
 

@@ -25,7 +25,7 @@ index-le b (x ∷ xs) = go (eqb x b) (index-le b xs)
     go true h = omega arith
     go false h = omega arith
 
--- The first piece ends at the first b, and the pieces behind it are those of what follows.
+-- The first piece ends at the first b, and the pieces after it are those of what follows.
 pub pieces-first : (b : ℕ) (s : List ℕ) → indexOf b s < length s
     → pieces b s ≡ take (indexOf b s) s ∷ pieces b (drop (suc (indexOf b s)) s)
 unfolding indexOf indexAfter pieces
@@ -52,7 +52,7 @@ pieces-none b (x ∷ xs) h = go (eqb x b) (pieces-none b xs) h
 
 -- ## The first line
 
--- The first line ends at the first newline, and the lines behind it are those of what follows.
+-- The first line ends at the first newline, and the lines after it are those of what follows.
 pub lines-first : (s : List ℕ) → indexOf newline s < length s
     → lines s ≡ shut (take (indexOf newline s) s) ∷ lines (drop (suc (indexOf newline s)) s)
 unfolding indexOf indexAfter lines

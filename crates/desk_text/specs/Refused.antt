@@ -15,7 +15,7 @@ use Rattle.desk_text.specs.NumeralLaws.{spells-last, spelt-decimal}
 use Rattle.desk_text.specs.Report.{report, refusal, deskOf}
 use Rattle.desk_text.specs.Whole.{desk-good, desk-bad, first-few}
 
--- the number that stands behind `refused` and a tab, with a zero for the newline
+-- the number that stands after `refused` and a tab, with a zero for the newline
 spelt-refusal : (n : ℕ) → n < 100000 → spelt (drop 8 (refusal n)) ≡ n * 10
 spelt-refusal n h = spells-last 0 (decimal n) newline ∙ omega (arith, spelt-decimal n h)
 

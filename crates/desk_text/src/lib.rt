@@ -1,7 +1,7 @@
 // The desk's text: the types that callers see. What the text is for every input, and what the calls promise, is defined in
 // specs/, in document 01's words; the code that works it out stands in the rooms above.
 
-// How many bytes each label of a good input has. The customer's stands behind `own` and a tab, the vehicle's behind it and
+// How many bytes each label of a good input has. The customer's stands after `own` and a tab, the vehicle's after it and
 // another tab.
 pub struct Labels {
     pub customer: usize,

@@ -48,7 +48,7 @@ unfoldable pub all : List Item → Bool
 all [] = true
 all (item ∷ items) = isSo item && all items
 
--- The stations of the starred contests: FF at the quickest clock ..
+-- The stations of the starred rounds: FF at the quickest clock ..
 abbrev quick : Station
 quick = holds (clockOf 49 112 182) (0xFF ∷ [])
 

@@ -1,6 +1,6 @@
 // Prints, as the proved code answers them, the check bytes, width classes, clocks and sent widths of document 01's worked
 // cases, and published check vectors. An independent second program prints the same from the paper alone, and the two are
-// compared line by line. The worked volts and contests are proved in specs/ and not printed.
+// compared line by line. The worked volts and rounds are proved in specs/ and not printed.
 mod checks;
 mod print;
 mod symbols;
