@@ -10,7 +10,8 @@ use Rattle.symbol.specs.declared.Clock.{Clock}
 use Rattle.frame.specs.declared.Response.{Response}
 use Rattle.frame.specs.declared.Writing.{Writing}
 use Rattle.frame.specs.Writing.{turnedAway, writing, counted, counts, wordsAfter, WritePromise}
-use Rattle.c_numbers.specs.Answers.{kindOf, noSuchKind, sheetOf, countedAs}
+use Rattle.frame_numbers.specs.Numbers.{kindOf}
+use Rattle.c_frame_answers.specs.Answers.{noSuchKind, sheetOf, countedAs}
 
 module _ (c : Clock) (main : List ℕ) (kind : ℕ) (rs : List ℕ) (lent : ℕ) where
   pub no-kind : 2 < kind → sheetOf c main kind rs lent ≡ noSuchKind c
