@@ -8,7 +8,8 @@ use lib.ListN.{length, getD}
 use lib.Seq.{sets}
 use Rattle.desk_text.specs.declared.Labels.{Labels}
 use Rattle.desk_text.specs.declared.Judged.{Judged}
-use Rattle.desk_text.specs.Grammar.{fields, spelt, isLabel}
+use Rattle.label.specs.Labels.{isLabel}
+use Rattle.desk_text.specs.Grammar.{fields, spelt}
 use Rattle.desk_text.specs.Input.{shut, lines, field, ownLine, ivLine, mostWidths, badFrom, widthsFrom}
 use Rattle.desk_text.specs.declared.Judged.the-variants.{Good, Bad}
 use Rattle.desk_field.specs.declared.Width.{Width}

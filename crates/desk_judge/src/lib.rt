@@ -7,20 +7,19 @@ ghost use Rattle.desk_text.specs.Input.{mostWidths};
 ghost use Rattle.desk_text.specs.Calls.{JudgePromise};
 ghost use Rattle.desk_judge.specs.Found.{ivOf, labelsOf, ownOf, Taking, Behind};
 use desk_field::Width;
-use desk_field::is_label;
 use desk_field::same;
 use desk_field::width_in;
 use desk_text::Judged;
 use desk_text::Labels;
+use desk_text::MOST_WIDTHS;
+use label::is_label;
 
 // The byte that closes a line, and the byte that parts fields.
 const NEWLINE: u8 = 10;
 
 const TAB: u8 = 9;
 
-// The most widths of an input, each on a line of its own; and the number of the first such line.
-const MOST_WIDTHS: usize = 16384;
-
+// The number of the first line with a width, each of which has a line of its own.
 const FIRST_WIDTH_LINE: usize = 2;
 
 // The labels of a first line, or none.

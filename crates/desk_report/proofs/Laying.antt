@@ -99,14 +99,6 @@ module _ {n r : ℕ} {t : List ℕ} (f : Fewest 10 1 n r) (h : n < 1844674407370
 
 -- ## Hex
 
-pub hex-low : (d : ℕ) → d < 10 → 48 + d ≡ hexDigit d
-unfolding hexDigit
-hex-low d h = rw (lt-ltb d 10 h)
-
-pub hex-high : (d : ℕ) → 10 ≤ d → 55 + d ≡ hexDigit d
-unfolding hexDigit
-hex-high d h = rw (le-ltb d 10 h)
-
 -- i bytes are printed, and those from i on are left
 pub record Hexing (s entry : List ℕ) (at : ℕ) (lent : List ℕ) (k i : ℕ) : Type 0 where
   pub inside : i ≤ length s

@@ -13,8 +13,6 @@ use Rattle.frame.specs.Answers.{faultNumber}
 use Rattle.desk_text.specs.Grammar.{newline, tab}
 use Rattle.desk_text.specs.Numerals.{decimal, hex}
 use Rattle.desk_text.specs.Report.{w-frame, w-quiet, w-unfinished, w-fault, w-none, lineOf, marked}
-use Rattle.desk_report.specs.declared.rows.Next.{Next}
-use Rattle.desk_report.specs.declared.rows.Next.the-variants.{At, Nowhere}
 
 -- A text is laid from a place on, and `end` is the place behind it.
 pub record Laid (at : ℕ) (text entry exit : List ℕ) (end : ℕ) : Type 0 where
@@ -59,7 +57,7 @@ Holds (Faulty fault next) s = Unit {0}
 Holds PastRecording s = Unit {0}
 Holds FewLentBytes s = Unit {0}
 
--- where an answer stands ..
+-- where an answer stands
 abbrev pub placeOf : Reading → ℕ
 placeOf (Frame lengths response opening next) = opening .0
 placeOf (Quiet next) = next .0
@@ -67,15 +65,6 @@ placeOf (Unfinished opening) = opening .0
 placeOf (Faulty fault next) = next .0
 placeOf PastRecording = 0
 placeOf FewLentBytes = 0
-
--- .. and where reading goes on behind it
-abbrev pub behindOf : Reading → Next
-behindOf (Frame lengths response opening next) = At (next .0)
-behindOf (Quiet next) = Nowhere
-behindOf (Unfinished opening) = Nowhere
-behindOf (Faulty fault next) = At (next .0)
-behindOf PastRecording = Nowhere
-behindOf FewLentBytes = Nowhere
 
 -- the line of an answer
 unfoldable pub lineIn : List ℕ → List ℕ → Reading → List ℕ → List ℕ

@@ -9,8 +9,8 @@ use Rattle.frame.specs.ReadingOn.{answersIn}
 use Rattle.desk_text.specs.declared.Labels.{Labels}
 use Rattle.desk_text.specs.Report.{rowOf, rowsOf}
 use Rattle.desk_text.specs.LabelPlaces.{customerPlace}
-use Rattle.desk_report.specs.declared.rows.Next.{Next}
-use Rattle.desk_report.specs.declared.rows.Next.the-variants.{At, Nowhere}
+use Rattle.desk_answer.specs.declared.Next.{Next}
+use Rattle.desk_answer.specs.declared.Next.the-variants.{At, Nowhere}
 use Rattle.desk_report.specs.declared.rows.Step.{Step}
 use Rattle.desk_report.specs.Laying.{Laid}
 

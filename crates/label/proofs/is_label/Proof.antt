@@ -1,8 +1,8 @@
--- `desk_field::is_label` meets its contract: a law of `Leaves` for each way out.
-use Rattle.desk_field.proofs.Leaves.{label-empty, label-long, label-fits}
+-- `label::is_label` meets its contract: a law of `Leaves` for each way out.
+use Rattle.label.proofs.Leaves.{label-empty, label-long, label-fits}
 use borrow.Author.Needs.{needs}
-use Rattle.desk_field.proofs.is_label.Statement.{statement}
-use Rattle.desk_field.proofs.is_label.Tie as tie
+use Rattle.label.proofs.is_label.Statement.{statement}
+use Rattle.label.proofs.is_label.Tie as tie
 
 returns : tie.Need-returns
 returns c = search (needs, label-empty)

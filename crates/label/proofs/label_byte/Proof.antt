@@ -1,8 +1,8 @@
--- `desk_field::label_byte` meets its contract: a law of `Leaves` for each way out.
-use Rattle.desk_field.proofs.Leaves.{label-lower, label-upper, label-digit, label-dash, label-bar}
+-- `label::label_byte` meets its contract: a law of `Leaves` for each way out.
+use Rattle.label.proofs.Leaves.{label-lower, label-upper, label-digit, label-dash, label-bar}
 use borrow.Author.Needs.{needs}
-use Rattle.desk_field.proofs.label_byte.Statement.{statement}
-use Rattle.desk_field.proofs.label_byte.Tie as tie
+use Rattle.label.proofs.label_byte.Statement.{statement}
+use Rattle.label.proofs.label_byte.Tie as tie
 
 among-requires : tie.Need-among-requires
 among-requires c κs = search needs

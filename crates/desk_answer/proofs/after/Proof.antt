@@ -1,9 +1,9 @@
--- `desk_report::behind` meets its contract, arm by arm.
+-- `desk_answer::after` meets its contract, arm by arm.
 use mathlib.Core.Path.{sym, ap}
-use Rattle.desk_report.specs.Laying.{behindOf}
+use Rattle.desk_answer.specs.Shown.{afterOf}
 use borrow.Author.Needs.{needs}
-use Rattle.desk_report.proofs.rows.behind.Statement.{statement}
-use Rattle.desk_report.proofs.rows.behind.Tie as tie
+use Rattle.desk_answer.proofs.after.Statement.{statement}
+use Rattle.desk_answer.proofs.after.Tie as tie
 
 enum-known-reading : tie.Need-enum-known-reading
 enum-known-reading c = search needs
@@ -24,7 +24,7 @@ enum-told-4 : tie.Need-enum-told-4
 enum-told-4 c = search needs
 
 returns : tie.Need-returns
-returns c = sym (ap behindOf (c .before .reading .given .1))
+returns c = sym (ap afterOf (c .before .reading .given .1))
 
 returns-2 : tie.Need-returns-2
 returns-2 c = search needs
@@ -33,7 +33,7 @@ returns-3 : tie.Need-returns-3
 returns-3 c = search needs
 
 returns-4 : tie.Need-returns-4
-returns-4 c = sym (ap behindOf (c .before .reading2 .given .1))
+returns-4 c = sym (ap afterOf (c .before .reading2 .given .1))
 
 returns-5 : tie.Need-returns-5
 returns-5 c = search needs
@@ -41,8 +41,8 @@ returns-5 c = search needs
 returns-6 : tie.Need-returns-6
 returns-6 c = search needs
 
-pub behind-spec : {M : Type 1} → statement M
-behind-spec =
+pub after-spec : {M : Type 1} → statement M
+after-spec =
     tie.close
     (tie.spec
     enum-known-reading

@@ -1,7 +1,7 @@
--- `desk_field::among` meets its contract: the lower bound is tested first, then the upper.
+-- `label::among` meets its contract: the lower bound is tested first, then the upper.
 use borrow.Author.Tests.{lt-leb, le-leb}
-use Rattle.desk_field.proofs.among.Statement.{statement}
-use Rattle.desk_field.proofs.among.Tie as tie
+use Rattle.label.proofs.among.Statement.{statement}
+use Rattle.label.proofs.among.Tie as tie
 
 returns : tie.Need-returns
 returns c = rw (lt-leb _ _ (c .if1 .taken))

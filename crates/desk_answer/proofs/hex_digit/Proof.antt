@@ -1,8 +1,8 @@
--- `desk_report::hex_digit` meets its contract: a numeral, or a capital letter.
-use Rattle.desk_report.proofs.Laying.{hex-low, hex-high}
+-- `desk_answer::hex_digit` meets its contract: a numeral, or a capital letter.
+use Rattle.desk_answer.specs.HexLaws.{hex-low, hex-high}
 use borrow.Author.Needs.{needs}
-use Rattle.desk_report.proofs.fields.hex_digit.Statement.{statement}
-use Rattle.desk_report.proofs.fields.hex_digit.Tie as tie
+use Rattle.desk_answer.proofs.hex_digit.Statement.{statement}
+use Rattle.desk_answer.proofs.hex_digit.Tie as tie
 
 add-result : tie.Need-add-result
 add-result c = search needs
