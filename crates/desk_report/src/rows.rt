@@ -12,7 +12,7 @@ use crate::fields::put_frame;
 use crate::fields::put_place;
 use desk_answer::Next;
 use frame::Reading;
-use frame_machine::MOST_BYTES;
+use frame_numbers::MOST_BYTES;
 use units::Place;
 
 // The kind and the parts of an answer; a frame's bytes stand first in s.

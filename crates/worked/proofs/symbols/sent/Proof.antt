@@ -1,7 +1,9 @@
--- `symbol::width_sent` meets its contract: each arm is the line of the definition for its symbol.
+-- `worked::sent` meets its contract: each arm is the line of the definition for its symbol.
+use mathlib.Core.Path.{ap}
+use Rattle.symbol.specs.declared.Sent.the-variants.{For}
 use borrow.Author.Needs.{needs}
-use Rattle.symbol.proofs.width_sent.Statement.{statement}
-use Rattle.symbol.proofs.width_sent.Tie as tie
+use Rattle.worked.proofs.symbols.sent.Statement.{statement}
+use Rattle.worked.proofs.symbols.sent.Tie as tie
 
 enum-told : tie.Need-enum-told
 enum-told c = search needs
@@ -46,10 +48,10 @@ enum-told-9 : tie.Need-enum-told-9
 enum-told-9 c = search needs
 
 returns : tie.Need-returns
-returns c = rw (c .before .enum-told .given .1) (cc)
+returns c = rw (c .before .enum-told .given .1) (ap For (c .bit-width .ensures))
 
 returns-2 : tie.Need-returns-2
-returns-2 c = rw (c .before .enum-told2 .given .1) (cc)
+returns-2 c = rw (c .before .enum-told2 .given .1) (ap For (c .bit-width2 .ensures))
 
 returns-3 : tie.Need-returns-3
 returns-3 c = rw (c .before .enum-told3 .given .1) (c .only-where .ensures)
@@ -72,8 +74,8 @@ returns-8 c = search needs
 returns-9 : tie.Need-returns-9
 returns-9 c = search needs
 
-pub width-sent-spec : {M : Type 1} → statement M
-width-sent-spec =
+pub sent-spec : {M : Type 1} → statement M
+sent-spec =
     tie.close
     (tie.spec
     enum-told

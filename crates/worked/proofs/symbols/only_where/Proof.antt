@@ -1,6 +1,6 @@
--- `symbol::only_where` meets its contract: the test says whether the level has the symbol.
-use Rattle.symbol.proofs.only_where.Statement.{statement}
-use Rattle.symbol.proofs.only_where.Tie as tie
+-- `worked::only_where` meets its contract: the test says whether the level has the symbol.
+use Rattle.worked.proofs.symbols.only_where.Statement.{statement}
+use Rattle.worked.proofs.symbols.only_where.Tie as tie
 
 returns : tie.Need-returns
 returns c = rw (c .if1 .taken)
