@@ -28,7 +28,7 @@ use units::Micros;
 use units::Place;
 use volts::Gate;
 
-// The check byte that is sent behind some bytes.
+// The check byte that is sent after some bytes.
 #[no_mangle]
 pub extern "C" fn j1850_check_byte(bytes: &[u8]) -> Check
     ensures { λ r. ⌜ r ≡ checkAs (checkOf (now (bytes .entry))) ⌝ }
@@ -71,7 +71,7 @@ pub extern "C" fn j1850_intervals(gate: Gate, samples: &[f32], words: &mut [u32]
 }
 
 // Writes the frame of a message, at a clock, into lent words. A kind that is none of the three is turned away as a bad
-// message is, behind a bad clock.
+// message is, after a bad clock.
 #[no_mangle]
 pub extern "C" fn j1850_write(
     clock: Clock,

@@ -45,11 +45,11 @@ registerOf bs = registerFrom allOnes bs
 abbrev pub checkFrom : ℕ → List ℕ → ℕ
 checkFrom r bs = allOnes - registerFrom r bs
 
--- the check byte that is sent behind the bytes
+-- the check byte that is sent after the bytes
 unfoldable pub checkOf : List ℕ → ℕ
 checkOf bs = checkFrom allOnes bs
 
--- bytes with their check byte behind them, as they go out on the line
+-- bytes with their check byte after them, as they go out on the line
 abbrev pub withCheck : List ℕ → List ℕ
 withCheck bs = bs ++ (checkOf bs ∷ [])
 

@@ -3,7 +3,7 @@ use mathlib.Core.Path.{_≡_, refl, sym, _∙_}
 use Prim.Native.Nat.{ℕ, zero, suc, _+_, _*_, _/_, _%_, _^_, _<_}
 use native.Mathlib.Nat.{pow-suc}
 use native.Mathlib.Omega.{arith}
-use lib.Bits.{bitXor, differ, xor-step, xor-comm}
+use lib.Bits.{bitXor, differ, xor-step}
 
 -- for one digit
 digit : (x y z : ℕ) → x < 2 → y < 2 → z < 2 → differ x y ≡ differ x z → y ≡ z
@@ -31,7 +31,3 @@ xor-same (suc k) a b c hb hc e =
     let low : b % 2 ≡ c % 2 = digit (a % 2) (b % 2) (c % 2) (omega arith) (omega arith) (omega arith) (omega arith) in
     let half : b / 2 ≡ c / 2 = xor-same k (a / 2) (b / 2) (c / 2) (omega (arith, pow-suc 2 k)) (omega (arith, pow-suc 2 k)) top in
     omega arith
-
--- The same from the other side.
-pub xor-same-left : (k a b c : ℕ) → a < 2 ^ k → b < 2 ^ k → bitXor a c ≡ bitXor b c → a ≡ b
-xor-same-left k a b c ha hb e = xor-same k c a b ha hb (xor-comm c a ∙ e ∙ xor-comm b c)

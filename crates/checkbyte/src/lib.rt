@@ -1,4 +1,4 @@
-// The check byte of SAE J1850. The register's step for one byte stands behind one name, so that whoever feeds bytes,
+// The check byte of SAE J1850. The register's step for one byte stands under one name, so that whoever feeds bytes,
 // here or above, does not see how it is worked out.
 ghost use mathlib.Core.Path.{_≡_};
 ghost use Rattle.checkbyte.specs.Register.{shift, stepOf, registerFrom, checkFrom, checkOf};
@@ -52,7 +52,7 @@ pub fn check_from(start: u8, bytes: &[u8]) -> u8
     ALL_ONES - register_from(start, bytes)
 }
 
-// The check byte that is sent behind these bytes.
+// The check byte that is sent after these bytes.
 pub fn check_byte(bytes: &[u8]) -> u8
     ensures { λ r. ⌜ r ≡ checkOf (now (bytes .entry)) ⌝ }
 {

@@ -39,7 +39,7 @@ module _ (a b : List ℕ) (i : ℕ) (so-far : same (drop i a) (drop i b) ≡ sam
 
 -- ## A number
 
--- the number that digits spell behind those that spell n
+-- the number that digits spell after those that spell n
 unfoldable pub numberFrom : ℕ → List ℕ → Width
 numberFrom n l = widthBy (every digit l && ltb (spells n l) pastU32) (spells n l)
 

@@ -5,7 +5,7 @@ ghost use Prim.Native.Nat.{_≤_};
 ghost use lib.ListN.{length};
 ghost use Rattle.desk_text.specs.Input.{mostWidths};
 ghost use Rattle.desk_text.specs.Calls.{JudgePromise};
-ghost use Rattle.desk_judge.specs.Found.{ivOf, labelsOf, ownOf, Taking, Behind};
+ghost use Rattle.desk_judge.specs.Found.{ivOf, labelsOf, ownOf, Taking, AfterOwn};
 use desk_field::Width;
 use desk_field::same;
 use desk_field::width_in;
@@ -82,7 +82,7 @@ fn own_line(s: &[u8]) -> Own
     two_labels(&s[m + 1..])
 }
 
-// The lines behind the first one: each width goes to its word, up to the first bad line.
+// The lines after the first one: each width goes to its word, up to the first bad line.
 fn iv_lines(s: &[u8], lent: &mut [u32]) -> Taken
     requires { ⌜ mostWidths ≤ length (now lent) ⌝ }
     ensures { λ r. ⌜ Taking (now (s .entry)) (now (lent .entry)) (now (lent .exit)) r ⌝ }
@@ -133,14 +133,14 @@ pub fn judge(input: &[u8], lent: &mut [u32]) -> Judged
     let own = own_line(&input[..e]);
     match own {
         Own::Not => Judged::Bad { line: 1 },
-        Own::Of(labels) => behind_own(&input[e + 1..], labels, lent),
+        Own::Of(labels) => after_own(&input[e + 1..], labels, lent),
     }
 }
 
 // What follows a good first line.
-fn behind_own(s: &[u8], labels: Labels, lent: &mut [u32]) -> Judged
+fn after_own(s: &[u8], labels: Labels, lent: &mut [u32]) -> Judged
     requires { ⌜ mostWidths ≤ length (now lent) ⌝ }
-    ensures { λ r. ⌜ Behind labels (now (s .entry)) (now (lent .entry)) (now (lent .exit)) r ⌝ }
+    ensures { λ r. ⌜ AfterOwn labels (now (s .entry)) (now (lent .entry)) (now (lent .exit)) r ⌝ }
 {
     let taken = iv_lines(s, lent);
     let widths = taken.widths;

@@ -1,4 +1,4 @@
--- Laws of laying text: one text behind another, room for what is left, and how each function's stores lay its text.
+-- Laws of laying text: one text after another, room for what is left, and how each function's stores lay its text.
 use Prim.Native.Nat.{ℕ, zero, suc, _+_, _-_, _*_, _/_, _%_, _^_, _≤_, _<_}
 use mathlib.Core.Path.{_≡_, refl, sym, ap, _∙_}
 use mathlib.Core.List.{List, [], _∷_, _++_, append-nil, append-assoc}
@@ -17,7 +17,7 @@ use Rattle.desk_text.specs.NumeralLaws.{hex-length}
 use Rattle.desk_text.specs.Numerals.{numeral, decimalIn, decimal, hexDigit, hex}
 use Rattle.desk_report.specs.Laying.{Laid, Room}
 
--- ## One behind another
+-- ## One after another
 
 pub then : {a b c : ℕ} {s t o p q : List ℕ} → Laid a s o p b → Laid b t p q c → Laid a (s ++ t) o q c
 then {a} {b} {c} {s} {t} {o} {p} {q} x y =

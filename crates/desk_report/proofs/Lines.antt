@@ -1,4 +1,4 @@
--- The parts of a line, one behind another: room for each in turn, and what they come to together.
+-- The parts of a line, one after another: room for each in turn, and what they come to together.
 use Prim.Native.Nat.{ℕ, _+_, _-_, _≤_}
 use mathlib.Core.Path.{_≡_, refl, sym, _∙_}
 use mathlib.Core.Bool.{Bool, true, false}
@@ -95,22 +95,22 @@ module _ {at : ℕ} {o : List ℕ} (n : Lengths) (kind : Response) (s : List ℕ
   frame-1 = room-first frameWord (mainPart ++ ((tab ∷ []) ++ responsePart)) whole
 
   module _ {k : ℕ} {p : List ℕ} (x : Laid at frameWord o p k) where
-    behind-word : Room k (mainPart ++ ((tab ∷ []) ++ responsePart)) p
-    behind-word = room-next frameWord (mainPart ++ ((tab ∷ []) ++ responsePart)) x whole
+    after-word : Room k (mainPart ++ ((tab ∷ []) ++ responsePart)) p
+    after-word = room-next frameWord (mainPart ++ ((tab ∷ []) ++ responsePart)) x whole
 
     pub frame-2 : Room k mainPart p
-    frame-2 = room-first mainPart ((tab ∷ []) ++ responsePart) behind-word
+    frame-2 = room-first mainPart ((tab ∷ []) ++ responsePart) after-word
 
     module _ {j : ℕ} {q : List ℕ} (y : Laid k mainPart p q j) where
-      behind-main : Room j ((tab ∷ []) ++ responsePart) q
-      behind-main = room-next mainPart ((tab ∷ []) ++ responsePart) y behind-word
+      after-main : Room j ((tab ∷ []) ++ responsePart) q
+      after-main = room-next mainPart ((tab ∷ []) ++ responsePart) y after-word
 
       pub frame-3 : Room j (tab ∷ []) q
-      frame-3 = room-first (tab ∷ []) responsePart behind-main
+      frame-3 = room-first (tab ∷ []) responsePart after-main
 
       module _ {i : ℕ} {r : List ℕ} (z : Laid j (tab ∷ []) q r i) where
         pub frame-4 : Room i responsePart r
-        frame-4 = room-next (tab ∷ []) responsePart z behind-main
+        frame-4 = room-next (tab ∷ []) responsePart z after-main
 
         pub frame-laid : {l : ℕ} {t : List ℕ} → Laid i responsePart r t l → Laid at (frameEnd n kind s) o t l
         unfolding frameEnd
@@ -127,17 +127,17 @@ module _ {at : ℕ} {o : List ℕ} (f : Fault) (h : Room at (faultEnd f) o) wher
   fault-1 = room-first w-fault (decimal (faultNumber f) ++ noParts) h
 
   module _ {k : ℕ} {p : List ℕ} (x : Laid at w-fault o p k) where
-    behind-fault : Room k (decimal (faultNumber f) ++ noParts) p
+    after-fault : Room k (decimal (faultNumber f) ++ noParts) p
     unfolding faultEnd
-    behind-fault = room-next w-fault (decimal (faultNumber f) ++ noParts) x h
+    after-fault = room-next w-fault (decimal (faultNumber f) ++ noParts) x h
 
     module _ {n : ℕ} (e : n ≡ faultNumber f) where
       pub fault-2 : Room k (decimal n) p
-      fault-2 = room-first (decimal n) noParts (rw e behind-fault)
+      fault-2 = room-first (decimal n) noParts (rw e after-fault)
 
       module _ {j : ℕ} {q : List ℕ} (y : Laid k (decimal n) p q j) where
         pub fault-3 : Room j noParts q
-        fault-3 = room-next (decimal n) noParts y (rw e behind-fault)
+        fault-3 = room-next (decimal n) noParts y (rw e after-fault)
 
         pub fault-laid : {i : ℕ} {r : List ℕ} → Laid j noParts q r i → Laid at (faultEnd f) o r i
         unfolding faultEnd
@@ -158,32 +158,32 @@ frame-holds s e h = rw e at h
 -- ## A line
 
 module _ {at : ℕ} {o : List ℕ} (customer vehicle : List ℕ) (r : Reading) (s : List ℕ) (h : Room at (lineIn customer vehicle r s) o) where
-  abbrev behindVehicle : List ℕ
-  behindVehicle = tabbed (decimal (placeOf r)) ++ endOf r s
+  abbrev afterVehicle : List ℕ
+  afterVehicle = tabbed (decimal (placeOf r)) ++ endOf r s
 
   pub line-1 : Room at (tabbed customer) o
   unfolding lineIn
-  line-1 = room-first (tabbed customer) (tabbed vehicle ++ behindVehicle) h
+  line-1 = room-first (tabbed customer) (tabbed vehicle ++ afterVehicle) h
 
   module _ {k : ℕ} {p : List ℕ} (x : Laid at (tabbed customer) o p k) where
-    behind-customer : Room k (tabbed vehicle ++ behindVehicle) p
+    after-customer : Room k (tabbed vehicle ++ afterVehicle) p
     unfolding lineIn
-    behind-customer = room-next (tabbed customer) (tabbed vehicle ++ behindVehicle) x h
+    after-customer = room-next (tabbed customer) (tabbed vehicle ++ afterVehicle) x h
 
     pub line-2 : Room k (tabbed vehicle) p
-    line-2 = room-first (tabbed vehicle) behindVehicle behind-customer
+    line-2 = room-first (tabbed vehicle) afterVehicle after-customer
 
     module _ {j : ℕ} {q : List ℕ} (y : Laid k (tabbed vehicle) p q j) where
-      behind-vehicle : Room j behindVehicle q
-      behind-vehicle = room-next (tabbed vehicle) behindVehicle y behind-customer
+      after-vehicle : Room j afterVehicle q
+      after-vehicle = room-next (tabbed vehicle) afterVehicle y after-customer
 
       module _ {n : ℕ} (e : n ≡ placeOf r) where
         pub line-3 : Room j (tabbed (decimal n)) q
-        line-3 = rw e (room-first (tabbed (decimal (placeOf r))) (endOf r s) behind-vehicle)
+        line-3 = rw e (room-first (tabbed (decimal (placeOf r))) (endOf r s) after-vehicle)
 
         module _ {i : ℕ} {t : List ℕ} (z : Laid j (tabbed (decimal n)) q t i) where
           pub line-4 : Room i (endOf r s) t
-          line-4 = room-next (tabbed (decimal (placeOf r))) (endOf r s) (rw e at z) behind-vehicle
+          line-4 = room-next (tabbed (decimal (placeOf r))) (endOf r s) (rw e at z) after-vehicle
 
           pub line-laid : {l : ℕ} {u : List ℕ} → Laid i (endOf r s) t u l → Laid at (lineIn customer vehicle r s) o u l
           unfolding lineIn

@@ -14,7 +14,7 @@ use Rattle.desk_text.specs.Grammar.{newline, tab}
 use Rattle.desk_text.specs.Numerals.{decimal, hex}
 use Rattle.desk_text.specs.Report.{w-frame, w-quiet, w-unfinished, w-fault, w-none, lineOf, marked}
 
--- A text is laid from a place on, and `end` is the place behind it.
+-- A text is laid from a place on, and `end` is the place after it.
 pub record Laid (at : ℕ) (text entry exit : List ℕ) (end : ℕ) : Type 0 where
   pub ends : end ≡ at + length text
   pub lays : exit ≡ sets entry at text
@@ -23,7 +23,7 @@ pub record Laid (at : ℕ) (text entry exit : List ℕ) (end : ℕ) : Type 0 whe
 pub record Room (at : ℕ) (text lent : List ℕ) : Type 0 where
   pub fits : at + length text ≤ length lent
 
--- a field and the tab behind it
+-- a field and the tab after it
 abbrev pub tabbed : List ℕ → List ℕ
 tabbed f = f ++ (tab ∷ [])
 

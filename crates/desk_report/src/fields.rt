@@ -1,4 +1,4 @@
-// What the fields of a line are printed by. Each function lays its text from a place on and answers the place behind it.
+// What the fields of a line are printed by. Each function lays its text from a place on and answers the place after it.
 ghost use Prim.Native.Nat.{_+_, _≤_};
 ghost use lib.ListN.{length};
 ghost use Rattle.desk_text.specs.Numerals.{decimal, hex};
@@ -16,7 +16,7 @@ pub(crate) fn put(s: &[u8], lent: &mut [u8], at: usize) -> usize
     at + s.len()
 }
 
-// A field and the tab behind it.
+// A field and the tab after it.
 pub(crate) fn put_field(s: &[u8], lent: &mut [u8], at: usize) -> usize
     requires { ⌜ Room at (tabbed (now s)) (now lent) ⌝ }
     ensures { λ r. ⌜ Laid at (tabbed (now (s .entry))) (now (lent .entry)) (now (lent .exit)) r ⌝ }
@@ -35,7 +35,7 @@ pub(crate) fn put_number(n: usize, lent: &mut [u8], at: usize) -> usize
     put(&digits[..k], lent, at)
 }
 
-// A number and the tab behind it.
+// A number and the tab after it.
 pub(crate) fn put_place(n: usize, lent: &mut [u8], at: usize) -> usize
     requires { ⌜ Room at (tabbed (decimal n)) (now lent) ⌝ }
     ensures { λ r. ⌜ Laid at (tabbed (decimal n)) (now (lent .entry)) (now (lent .exit)) r ⌝ }
@@ -61,7 +61,7 @@ fn put_hex(s: &[u8], lent: &mut [u8], at: usize) -> usize
     k
 }
 
-// A response with its mark, or `-`; and the newline behind it.
+// A response with its mark, or `-`; and the newline after it.
 fn put_response(kind: Response, s: &[u8], lent: &mut [u8], at: usize) -> usize
     requires { ⌜ Room at (responseEnd kind (now s)) (now lent) ⌝ }
     ensures { λ r. ⌜ Laid at (responseEnd kind (now (s .entry))) (now (lent .entry)) (now (lent .exit)) r ⌝ }

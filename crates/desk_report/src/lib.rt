@@ -17,7 +17,7 @@ use fields::put;
 use fields::put_number;
 use rows::put_rows;
 
-// Where the customer's label begins in a good input: behind `own` and a tab.
+// Where the customer's label begins in a good input: after `own` and a tab.
 const CUSTOMER: usize = 4;
 
 // The report of a recording whose labels stand in the input: the header, and a line for each answer.
