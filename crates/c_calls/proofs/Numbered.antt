@@ -28,12 +28,12 @@ use Rattle.bench.specs.Promises.{calledNumber}
 use Rattle.bench.proofs.Called as C
 use Rattle.bench.proofs.Called.Laws as C′
 use Rattle.walks.specs.Walk.{calls-plain}
-use Rattle.c_numbers.specs.declared.contests.CallAnswer.{CallAnswer}
-use Rattle.c_numbers.specs.Contests.{calledAs}
-use Rattle.c_numbers.proofs.contests.CallAnswer as N
-use Rattle.c_numbers.proofs.contests.CallAnswer.Laws as N′
-use Rattle.c_numbers.proofs.called_as as called-as
-use Rattle.c_numbers.proofs.called_as.Symbol.{name as #called-as}
+use Rattle.c_bench_answers.specs.declared.CallAnswer.{CallAnswer}
+use Rattle.c_bench_answers.specs.Answers.{calledAs}
+use Rattle.c_bench_answers.proofs.CallAnswer as N
+use Rattle.c_bench_answers.proofs.CallAnswer.Laws as N′
+use Rattle.c_bench_answers.proofs.called_as as called-as
+use Rattle.c_bench_answers.proofs.called_as.Symbol.{name as #called-as}
 
 abbrev pub called-val : Called → Val
 called-val r = only (EL.vals C.the-type C′.the-laws r)

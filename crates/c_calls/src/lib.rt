@@ -14,21 +14,21 @@ ghost use Rattle.frame.specs.Reading.{reading};
 ghost use Rattle.frame.specs.Answers.{tells, lentAfter};
 ghost use Rattle.frame.specs.Writing.{counts, wordsAfter};
 ghost use Rattle.desk_text.specs.Calls.{answering, pageTells, lentShort, laidWords, laidText, laidOn};
-ghost use Rattle.c_numbers.specs.Answers.{checkAs, classAs, timedAs, tracedAs, sheetOf, countedAs, readAs, deskAs};
-use c_numbers::CHECKED;
-use c_numbers::Check;
-use c_numbers::Class;
-use c_numbers::Counted;
-use c_numbers::DONE;
-use c_numbers::Desk;
-use c_numbers::Read;
-use c_numbers::Timed;
+ghost use Rattle.c_frame_answers.specs.Answers.{checkAs, classAs, timedAs, tracedAs, sheetOf, countedAs, readAs, deskAs};
+use c_frame_answers::Check;
+use c_frame_answers::Class;
+use c_frame_answers::Counted;
+use c_frame_answers::Desk;
+use c_frame_answers::Read;
+use c_frame_answers::Timed;
+use frame_numbers::CHECKED;
+use frame_numbers::DONE;
 use symbol::Clock;
 use units::Micros;
 use units::Place;
 use volts::Gate;
 
-// The check byte that is sent behind some bytes.
+// The check byte that is sent after some bytes.
 #[no_mangle]
 pub extern "C" fn j1850_check_byte(bytes: &[u8]) -> Check
     ensures { λ r. ⌜ r ≡ checkAs (checkOf (now (bytes .entry))) ⌝ }
@@ -45,7 +45,7 @@ pub extern "C" fn j1850_check_byte(bytes: &[u8]) -> Check
 pub extern "C" fn j1850_class(active: bool, width: u32) -> Class
     ensures { λ r. ⌜ r ≡ classAs (classOf active width) ⌝ }
 {
-    let symbol = c_numbers::symbol_number(symbol::class(active, Micros(width)));
+    let symbol = frame_numbers::symbol_number(symbol::class(active, Micros(width)));
     Class {
         number: DONE,
         symbol,
@@ -67,11 +67,11 @@ pub extern "C" fn j1850_intervals(gate: Gate, samples: &[f32], words: &mut [u32]
     ensures { λ r. ⌜ r ≡ tracedAs (outcome gate (now (samples .entry)) (now (words .entry))) ⌝ }
     ensures { λ _. ⌜ now (words .exit) ≡ tracedWords (outcome gate (now (samples .entry)) (now (words .entry))) (intervalsOf gate (now (samples .entry))) (now (words .entry)) ⌝ }
 {
-    c_numbers::traced(volts::intervals(gate, samples, words))
+    c_frame_answers::traced(volts::intervals(gate, samples, words))
 }
 
 // Writes the frame of a message, at a clock, into lent words. A kind that is none of the three is turned away as a bad
-// message is, behind a bad clock.
+// message is, after a bad clock.
 #[no_mangle]
 pub extern "C" fn j1850_write(
     clock: Clock,
@@ -84,9 +84,15 @@ pub extern "C" fn j1850_write(
     ensures { λ _. ⌜ now (words .exit) ≡ wordsAfter (sheetOf clock (now (main .entry)) kind (now (response .entry)) (length (now (words .entry)))) (now (words .entry)) ⌝ }
 {
     if kind > CHECKED {
-        return c_numbers::no_such_kind(clock);
+        return c_frame_answers::no_such_kind(clock);
     }
-    c_numbers::written(frame_write::write(clock, main, c_numbers::kind_of(kind), response, words))
+    c_frame_answers::written(frame_write::write(
+        clock,
+        main,
+        frame_numbers::kind_of(kind),
+        response,
+        words,
+    ))
 }
 
 // Reads the first frame from a position of a recording on; its bytes go into lent bytes, at least 12.
@@ -95,7 +101,7 @@ pub extern "C" fn j1850_read(intervals: &[u32], from: usize, bytes: &mut [u8]) -
     ensures { λ r. ⌜ r ≡ readAs (tells (reading (now (intervals .entry)) from (length (now (bytes .entry))))) ⌝ }
     ensures { λ _. ⌜ now (bytes .exit) ≡ lentAfter (reading (now (intervals .entry)) from (length (now (bytes .entry)))) (now (bytes .entry)) ⌝ }
 {
-    c_numbers::read_as(frame_read::read(intervals, Place(from), bytes))
+    c_frame_answers::read_as(frame_read::read(intervals, Place(from), bytes))
 }
 
 // The desk's whole text for an input, into lent bytes; the input's widths go into lent words.
@@ -105,5 +111,5 @@ pub extern "C" fn j1850_desk(input: &[u8], words: &mut [u32], text: &mut [u8]) -
     ensures { λ _. ⌜ now (words .exit) ≡ laidOn (laidWords (lentShort (length (now (words .entry))) (length (now (text .entry)))) (now (input .entry))) (now (words .entry)) ⌝ }
     ensures { λ _. ⌜ now (text .exit) ≡ laidOn (laidText (lentShort (length (now (words .entry))) (length (now (text .entry)))) (now (input .entry))) (now (text .entry)) ⌝ }
 {
-    c_numbers::desk_as(desk_report::desk(input, words, text))
+    c_frame_answers::desk_as(desk_report::desk(input, words, text))
 }

@@ -3,10 +3,10 @@ ghost use mathlib.Core.Path.{_≡_};
 ghost use Rattle.bench.specs.Calls as Calls;
 ghost use Rattle.bench.specs.Calls.{numberOf, after, lentAfter};
 ghost use Rattle.bench.specs.Promises.{roundSays};
-ghost use Rattle.c_numbers.specs.Contests.{calledAs, roundAs};
+ghost use Rattle.c_bench_answers.specs.Answers.{calledAs, roundAs};
 use bench::Station;
-use c_numbers::CallAnswer;
-use c_numbers::RoundAnswer;
+use c_bench_answers::CallAnswer;
+use c_bench_answers::RoundAnswer;
 use symbol::Clock;
 
 // Loads a message into the station at a place, from 0 on.
@@ -15,7 +15,7 @@ pub extern "C" fn j1850_load(row: &mut [Station], place: usize, message: &[u8]) 
     ensures { λ r. ⌜ (r ≡ calledAs (numberOf (Calls.load place (now (message .entry))) (now (row .entry))))
         × (now (row .exit) ≡ after (Calls.load place (now (message .entry))) (now (row .entry))) ⌝ }
 {
-    c_numbers::called_as(bench_lent::load(row, place, message))
+    c_bench_answers::called_as(bench_lent::load(row, place, message))
 }
 
 // Withdraws the message of the station at a place.
@@ -24,7 +24,7 @@ pub extern "C" fn j1850_withdraw(row: &mut [Station], place: usize) -> CallAnswe
     ensures { λ r. ⌜ (r ≡ calledAs (numberOf (Calls.withdraw place) (now (row .entry))))
         × (now (row .exit) ≡ after (Calls.withdraw place) (now (row .entry))) ⌝ }
 {
-    c_numbers::called_as(bench_lent::withdraw(row, place))
+    c_bench_answers::called_as(bench_lent::withdraw(row, place))
 }
 
 // Sets the clock of the station at a place.
@@ -33,7 +33,7 @@ pub extern "C" fn j1850_set_clock(row: &mut [Station], place: usize, clock: Cloc
     ensures { λ r. ⌜ (r ≡ calledAs (numberOf (Calls.setClock place clock) (now (row .entry))))
         × (now (row .exit) ≡ after (Calls.setClock place clock) (now (row .entry))) ⌝ }
 {
-    c_numbers::called_as(bench_lent::set_clock(row, place, clock))
+    c_bench_answers::called_as(bench_lent::set_clock(row, place, clock))
 }
 
 // Plays a round and writes its words into those lent, at least 101.
@@ -43,5 +43,5 @@ pub extern "C" fn j1850_round(row: &mut [Station], words: &mut [u32]) -> RoundAn
         × (now (row .exit) ≡ after (Calls.round (now (words .entry))) (now (row .entry)))
         × (now (words .exit) ≡ lentAfter (now (row .entry)) (now (words .entry))) ⌝ }
 {
-    c_numbers::round_as(bench_lent::round(row, words))
+    c_bench_answers::round_as(bench_lent::round(row, words))
 }

@@ -4,9 +4,9 @@
 ghost use mathlib.Core.Path.{_≡_};
 ghost use lib.ListN.{length};
 ghost use Rattle.live.specs.Feeding.{started, fedOf, lentOf, askedOf};
-ghost use Rattle.c_numbers.specs.Heard.{heardAs, askedAs};
-use c_numbers::AskedAnswer;
-use c_numbers::HeardAnswer;
+ghost use Rattle.c_live_answers.specs.Answers.{heardAs, askedAs};
+use c_live_answers::AskedAnswer;
+use c_live_answers::HeardAnswer;
 use live::Live;
 use units::Micros;
 
@@ -25,7 +25,7 @@ pub extern "C" fn j1850_hear(live: &mut Live, width: u32, bytes: &mut [u8]) -> H
         × (now (live .exit) ≡ fedOf (now (live .entry)) width (length (now (bytes .entry))) .live)
         × (now (bytes .exit) ≡ lentOf (now (live .entry)) width (now (bytes .entry))) ⌝ }
 {
-    c_numbers::heard_as(live_lent::hear(live, Micros(width), bytes))
+    c_live_answers::heard_as(live_lent::hear(live, Micros(width), bytes))
 }
 
 // Whether a frame has begun and is unfinished, at the moment of asking.
@@ -33,5 +33,5 @@ pub extern "C" fn j1850_hear(live: &mut Live, width: u32, bytes: &mut [u8]) -> H
 pub extern "C" fn j1850_ask(live: &Live) -> AskedAnswer
     ensures { λ r. ⌜ r ≡ askedAs (askedOf (now (live .entry))) ⌝ }
 {
-    c_numbers::asked_as(live_lent::ask(live))
+    c_live_answers::asked_as(live_lent::ask(live))
 }

@@ -1,7 +1,7 @@
 // The check byte of SAE J1850. The register's step for one byte is one call, so that whoever feeds bytes, here or above,
 // does not see how it is worked out.
 ghost use mathlib.Core.Path.{_≡_};
-ghost use Rattle.checkbyte.specs.Register.{shift, stepOf, registerFrom, checkFrom, checkOf, endsRight};
+ghost use Rattle.checkbyte.specs.Register.{shift, stepOf, registerFrom, checkFrom, checkOf};
 
 // The polynomial below its x^8, the register at first, and where it ends over bytes with their check byte.
 const POLYNOMIAL: u8 = 0x1D;
@@ -57,11 +57,4 @@ pub fn check_byte(bytes: &[u8]) -> u8
     ensures { λ r. ⌜ r ≡ checkOf (now (bytes .entry)) ⌝ }
 {
     check_from(ALL_ONES, bytes)
-}
-
-// Whether the last of these bytes is the check byte of those before it.
-pub fn ends_right(bytes: &[u8]) -> bool
-    ensures { λ r. ⌜ r ≡ endsRight (now (bytes .entry)) ⌝ }
-{
-    register_from(ALL_ONES, bytes) == RESIDUE
 }

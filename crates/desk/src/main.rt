@@ -10,6 +10,8 @@ ghost use Rattle.desk_text.specs.Input.{mostWidths};
 ghost use Rattle.desk_text.specs.Calls.{mostText};
 ghost use Rattle.desk.specs.Filling.{Within};
 use desk_text::Answered;
+use desk_text::MOST_TEXT;
+use desk_text::MOST_WIDTHS;
 use libc::STDERR_FILENO;
 use libc::STDIN_FILENO;
 use libc::STDOUT_FILENO;
@@ -17,11 +19,6 @@ use libc::STDOUT_FILENO;
 // One byte more than the longest good input has, so that an input that is too long is seen to be. What follows it changes
 // nothing, and is not read.
 const ENOUGH: usize = 229415;
-
-// What the desk asks for: a word for each width, and bytes for the longest text.
-const WORDS: usize = 16384;
-
-const PAGE: usize = 442463;
 
 // Bytes for the input.
 fn room() -> [u8; ENOUGH]
@@ -31,17 +28,17 @@ fn room() -> [u8; ENOUGH]
 }
 
 // Words for its widths.
-fn words() -> [u32; WORDS]
+fn words() -> [u32; MOST_WIDTHS]
     ensures { λ r. ⌜ mostWidths ≡ length r ⌝ }
 {
-    [0u32; WORDS]
+    [0u32; MOST_WIDTHS]
 }
 
 // Bytes for the text.
-fn page() -> [u8; PAGE]
+fn page() -> [u8; MOST_TEXT]
     ensures { λ r. ⌜ mostText ≡ length r ⌝ }
 {
-    [0u8; PAGE]
+    [0u8; MOST_TEXT]
 }
 
 // How many bytes were read, or that reading failed.

@@ -3,7 +3,8 @@ use Prim.Native.Nat.{ℕ}
 use mathlib.Core.Bool.{Bool, true, false, _&&_}
 use mathlib.Core.List.{List}
 use lib.Dec.{ltb}
-use Rattle.desk_text.specs.Grammar.{every, digit, spelt, pastU32, isWidth}
+use Rattle.label.specs.Labels.{every}
+use Rattle.desk_text.specs.Grammar.{digit, spelt, pastU32, isWidth}
 use Rattle.desk_field.specs.declared.Width.{Width}
 use Rattle.desk_field.specs.declared.Width.the-variants.{Of, Not}
 

@@ -1,4 +1,4 @@
--- How the first line and the lines behind it decide the promise of judging: a law for each way out.
+-- How the first line and the lines after it decide the promise of judging: a law for each way out.
 use Prim.Native.Nat.{ℕ, _+_, _-_, _≤_, _<_}
 use mathlib.Core.Path.{_≡_, refl, sym, _∙_}
 use mathlib.Core.Bool.{Bool, true, false, cond}
@@ -22,17 +22,17 @@ use Rattle.desk_text.specs.Calls.{good, bad, few, verdictBy, judging, judgedTol
 use Rattle.desk_judge.specs.declared.Own.{Own}
 use Rattle.desk_judge.specs.declared.Own.the-variants.{Of as Two, Not as None}
 use Rattle.desk_judge.specs.declared.Taken.{Taken}
-use Rattle.desk_judge.specs.Found.{ownBy, ownOf, Taking, Behind, judgedBy}
+use Rattle.desk_judge.specs.Found.{ownBy, ownOf, Taking, AfterOwn, judgedBy}
 use Rattle.desk_judge.proofs.Fields.{rest-all, found}
 
--- ## Behind a good first line
+-- ## AfterOwn a good first line
 
 module _ {s entry exit : List ℕ} {r : Taken} (labels : Labels) (t : Taking s entry exit r) where
-  pub behind-good : r .line ≡ 0 → Behind labels s entry exit (Good labels (r .widths))
-  behind-good e = record { answer = rw (eq-eqb (badFrom 2 (lines s)) 0 (sym (t .stop) ∙ e), t .count); laid = t .laid; few = t .few }
+  pub after-good : r .line ≡ 0 → AfterOwn labels s entry exit (Good labels (r .widths))
+  after-good e = record { answer = rw (eq-eqb (badFrom 2 (lines s)) 0 (sym (t .stop) ∙ e), t .count); laid = t .laid; few = t .few }
 
-  pub behind-bad : (r .line ≡ 0 → ⊥) → Behind labels s entry exit (Bad (r .line))
-  behind-bad n = record { answer = rw (ne-eqb (badFrom 2 (lines s)) 0 (λ e. n (t .stop ∙ e)), t .stop); laid = t .laid; few = t .few }
+  pub after-bad : (r .line ≡ 0 → ⊥) → AfterOwn labels s entry exit (Bad (r .line))
+  after-bad n = record { answer = rw (ne-eqb (badFrom 2 (lines s)) 0 (λ e. n (t .stop ∙ e)), t .stop); laid = t .laid; few = t .few }
 
 -- ## The first line
 
@@ -98,7 +98,7 @@ module _ (s entry : List ℕ) (h : mostWidths ≤ length entry) where
           refused-first (shut (take e s) ∷ lines (drop (e + 1) s)) split (rw n) (rw n)
 
       pub first-good : {w : Own} {labels : Labels} {exit : List ℕ} {r : Judged} → w ≡ ownOf (take e s) → w ≡ Two labels
-          → Behind labels (take (length s - (e + 1)) (drop (e + 1) s)) entry exit r → JudgePromise s entry exit r
+          → AfterOwn labels (take (length s - (e + 1)) (drop (e + 1) s)) entry exit r → JudgePromise s entry exit r
       first-good {labels = labels} {exit = exit} {r = r} a b t = go (drop (e + 1) s) split (rw (rest-all s (e + 1)) at t)
         where
           g : (ownLine (shut (take e s)) ≡ true) × (length (field 1 (shut (take e s))) ≡ labels .customer) × (length (field 2 (shut (take e s))) ≡ labels .vehicle)
@@ -110,7 +110,7 @@ module _ (s entry : List ℕ) (h : mostWidths ≤ length entry) where
           by true u = refl
           by false u = refl
 
-          go : (u : List ℕ) → lines s ≡ shut (take e s) ∷ lines u → Behind labels u entry exit r → JudgePromise s entry exit r
+          go : (u : List ℕ) → lines s ≡ shut (take e s) ∷ lines u → AfterOwn labels u entry exit r → JudgePromise s entry exit r
           go u p d = promised (shut (take e s) ∷ lines u) p exit r
               (rw (d .answer, g .0, g .1, g .2) (by (eqb (badFrom 2 (lines u)) 0) u))
               (d .laid ∙ sets-first entry (widthsFrom 2 (lines u)) (omega (arith, d .few)) ∙ rw (g .0))

@@ -10,7 +10,8 @@ use lib.ListN.{length, take, drop, length-drop}
 use lib.Seq.{take-all, length-take-le}
 use borrow.Author.Tests.{not-true, not-false, eq-eqb, ne-eqb, eqb-true, eqb-false}
 use Rattle.bytes.specs.Bytes.{indexOf, slice}
-use Rattle.desk_text.specs.Grammar.{tab, fields, same, labelByte, isLabel, digit, isWidth}
+use Rattle.label.specs.Labels.{labelByte, isLabel}
+use Rattle.desk_text.specs.Grammar.{tab, fields, same, digit, isWidth}
 use Rattle.desk_text.specs.Input.{own, iv, ivLine, ownLine}
 use Rattle.desk_text.specs.PieceLaws.{pieces-first, pieces-none, Shape, one, several, shape}
 use Rattle.desk_field.specs.declared.Width.{Width}

@@ -5,22 +5,21 @@ ghost use Prim.Native.Nat.{_≤_};
 ghost use lib.ListN.{length};
 ghost use Rattle.desk_text.specs.Input.{mostWidths};
 ghost use Rattle.desk_text.specs.Calls.{JudgePromise};
-ghost use Rattle.desk_judge.specs.Found.{ivOf, labelsOf, ownOf, Taking, Behind};
+ghost use Rattle.desk_judge.specs.Found.{ivOf, labelsOf, ownOf, Taking, AfterOwn};
 use desk_field::Width;
-use desk_field::is_label;
 use desk_field::same;
 use desk_field::width_in;
 use desk_text::Judged;
 use desk_text::Labels;
+use desk_text::MOST_WIDTHS;
+use label::is_label;
 
 // The byte that closes a line, and the byte that parts fields.
 const NEWLINE: u8 = 10;
 
 const TAB: u8 = 9;
 
-// The most widths of an input, each on a line of its own; and the number of the first such line.
-const MOST_WIDTHS: usize = 16384;
-
+// The number of the first line with a width, each of which has a line of its own.
 const FIRST_WIDTH_LINE: usize = 2;
 
 // The labels of a first line, or none.
@@ -83,7 +82,7 @@ fn own_line(s: &[u8]) -> Own
     two_labels(&s[m + 1..])
 }
 
-// The lines behind the first one: each width goes to its word, up to the first bad line.
+// The lines after the first one: each width goes to its word, up to the first bad line.
 fn iv_lines(s: &[u8], lent: &mut [u32]) -> Taken
     requires { ⌜ mostWidths ≤ length (now lent) ⌝ }
     ensures { λ r. ⌜ Taking (now (s .entry)) (now (lent .entry)) (now (lent .exit)) r ⌝ }
@@ -134,14 +133,14 @@ pub fn judge(input: &[u8], lent: &mut [u32]) -> Judged
     let own = own_line(&input[..e]);
     match own {
         Own::Not => Judged::Bad { line: 1 },
-        Own::Of(labels) => behind_own(&input[e + 1..], labels, lent),
+        Own::Of(labels) => after_own(&input[e + 1..], labels, lent),
     }
 }
 
 // What follows a good first line.
-fn behind_own(s: &[u8], labels: Labels, lent: &mut [u32]) -> Judged
+fn after_own(s: &[u8], labels: Labels, lent: &mut [u32]) -> Judged
     requires { ⌜ mostWidths ≤ length (now lent) ⌝ }
-    ensures { λ r. ⌜ Behind labels (now (s .entry)) (now (lent .entry)) (now (lent .exit)) r ⌝ }
+    ensures { λ r. ⌜ AfterOwn labels (now (s .entry)) (now (lent .entry)) (now (lent .exit)) r ⌝ }
 {
     let taken = iv_lines(s, lent);
     let widths = taken.widths;

@@ -17,8 +17,9 @@ use Rattle.desk_text.specs.Grammar.{tab}
 use Rattle.desk_text.specs.Numerals.{decimal, hex}
 use Rattle.desk_text.specs.Report.{w-frame, w-quiet, w-unfinished, w-fault, w-none, lineOf, marked, rowOf}
 use Rattle.desk_text.specs.AnswerLaws.{Answer, isSilence, isOpen, isFrame, isFault, answer-is}
-use Rattle.desk_report.specs.declared.rows.Next.{Next}
-use Rattle.desk_report.specs.Laying.{Laid, Room, tabbed, frameEnd, faultEnd, Holds, behindOf, lineIn}
+use Rattle.desk_answer.specs.declared.Next.{Next}
+use Rattle.desk_answer.specs.Shown.{afterOf}
+use Rattle.desk_report.specs.Laying.{Laid, Room, tabbed, frameEnd, faultEnd, Holds, lineIn}
 use Rattle.desk_report.specs.Reporting.{answerAt, onwards, Stepped}
 
 -- six fields, the first three each with its tab
@@ -28,7 +29,7 @@ joined c v d k m r = rw (append-assoc c (tab ∷ []), append-assoc v (tab ∷ []
 -- an answer, and what it prints
 pub record Prints (customer vehicle : List ℕ) (r : Reading) (bytes : List ℕ) (x : Outcome) : Type 0 where
   pub line : lineIn customer vehicle r bytes ≡ rowOf customer vehicle x
-  pub on : behindOf r ≡ onwards x
+  pub on : afterOf r ≡ onwards x
   pub holds : Holds r bytes
 
 abbrev place : ℕ → Place
@@ -72,6 +73,6 @@ module _ (customer vehicle : List ℕ) where
     pub answer-room : {at : ℕ} {lent : List ℕ} → Room at (rowOf customer vehicle (answerAt ws p)) lent → Room at (lineIn customer vehicle r bytes) lent
     answer-room g = rw (read-prints .line) g
 
-    pub answer-stepped : {at end : ℕ} {next : Next} {lent exit : List ℕ} → Laid at (lineIn customer vehicle r bytes) lent exit end → next ≡ behindOf r
+    pub answer-stepped : {at end : ℕ} {next : Next} {lent exit : List ℕ} → Laid at (lineIn customer vehicle r bytes) lent exit end → next ≡ afterOf r
         → Stepped customer vehicle ws p at lent exit (record { end = end; next = next })
     answer-stepped x e = record { row = rw (read-prints .line) at x; follows = e ∙ read-prints .on }

@@ -12,7 +12,7 @@ use Rattle.frame.specs.Reading.{Outcome, good, quiet, unfinished, faulty, refus
 use Rattle.frame.specs.Outcomes.{goesOn}
 use Rattle.frame.specs.ReadingOn.{nextOf, progress, ReadsOn, last, more, answersIn, reads-on, reads-once}
 use Rattle.desk_text.specs.Report.{rowOf, rowsOf}
-use Rattle.desk_report.specs.declared.rows.Next.the-variants.{At, Nowhere}
+use Rattle.desk_answer.specs.declared.Next.the-variants.{At, Nowhere}
 use Rattle.desk_report.specs.declared.rows.Step.{Step}
 use Rattle.desk_report.specs.Laying.{Laid, Room}
 use Rattle.desk_report.specs.Reporting.{answerAt, onwards, rowsFrom, Stepped}

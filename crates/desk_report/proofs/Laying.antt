@@ -1,4 +1,4 @@
--- Laws of laying text: one text behind another, room for what is left, and how each function's stores lay its text.
+-- Laws of laying text: one text after another, room for what is left, and how each function's stores lay its text.
 use Prim.Native.Nat.{ℕ, zero, suc, _+_, _-_, _*_, _/_, _%_, _^_, _≤_, _<_}
 use mathlib.Core.Path.{_≡_, refl, sym, ap, _∙_}
 use mathlib.Core.List.{List, [], _∷_, _++_, append-nil, append-assoc}
@@ -17,7 +17,7 @@ use Rattle.desk_text.specs.NumeralLaws.{hex-length}
 use Rattle.desk_text.specs.Numerals.{numeral, decimalIn, decimal, hexDigit, hex}
 use Rattle.desk_report.specs.Laying.{Laid, Room}
 
--- ## One behind another
+-- ## One after another
 
 pub then : {a b c : ℕ} {s t o p q : List ℕ} → Laid a s o p b → Laid b t p q c → Laid a (s ++ t) o q c
 then {a} {b} {c} {s} {t} {o} {p} {q} x y =
@@ -98,14 +98,6 @@ module _ {n r : ℕ} {t : List ℕ} (f : Fewest 10 1 n r) (h : n < 1844674407370
   number-laid x = rw (e ∙ decimal-is n r f h) at x
 
 -- ## Hex
-
-pub hex-low : (d : ℕ) → d < 10 → 48 + d ≡ hexDigit d
-unfolding hexDigit
-hex-low d h = rw (lt-ltb d 10 h)
-
-pub hex-high : (d : ℕ) → 10 ≤ d → 55 + d ≡ hexDigit d
-unfolding hexDigit
-hex-high d h = rw (le-ltb d 10 h)
 
 -- i bytes are printed, and those from i on are left
 pub record Hexing (s entry : List ℕ) (at : ℕ) (lent : List ℕ) (k i : ℕ) : Type 0 where

@@ -1,7 +1,8 @@
--- The parts of a line, one behind another: room for each in turn, and what they come to together.
+-- The parts of a line, one after another: room for each in turn, and what they come to together.
 use Prim.Native.Nat.{ℕ, _+_, _-_, _≤_}
-use mathlib.Core.Path.{_≡_}
-use mathlib.Core.List.{List, [], _∷_, _++_}
+use mathlib.Core.Path.{_≡_, refl, sym, _∙_}
+use mathlib.Core.Bool.{Bool, true, false}
+use mathlib.Core.List.{List, [], _∷_, _++_, append-nil}
 use native.Mathlib.Omega.{arith}
 use lib.ListN.{length, take, drop}
 use Rattle.frame.specs.declared.Lengths.{Lengths}
@@ -14,58 +15,61 @@ use Rattle.frame.specs.Answers.{faultNumber}
 use Rattle.units.specs.declared.Place.{Place}
 use Rattle.desk_text.specs.Grammar.{newline, tab}
 use Rattle.desk_text.specs.Numerals.{decimal, hex}
-use Rattle.desk_text.specs.Report.{w-refused, w-frame, w-fault, w-none, w-plain, w-checked, refusal}
+use Rattle.desk_text.specs.Report.{w-refused, w-frame, w-fault, w-none, refusal}
+use Rattle.desk_answer.specs.Shown.{isWithout, markOf}
 use Rattle.desk_report.specs.Laying.{Laid, Room, tabbed, responseEnd, frameEnd, faultEnd, endOf, Holds, placeOf, lineIn}
 use Rattle.desk_report.proofs.Laying.{then, room-first, room-next}
 
 -- ## A response
 
--- a mark, bytes in hex, and the newline
-module _ {at : ℕ} {o : List ℕ} (mark s : List ℕ) (h : Room at (mark ++ (hex s ++ (newline ∷ []))) o) where
-  mark-1 : Room at mark o
-  mark-1 = room-first mark (hex s ++ (newline ∷ [])) h
+-- what stands after the mark: bytes in hex and the newline, or nothing where there is no response
+abbrev restOf : Response → List ℕ → List ℕ
+restOf Without s = []
+restOf Plain s = hex s ++ (newline ∷ [])
+restOf Checked s = hex s ++ (newline ∷ [])
 
-  module _ {k : ℕ} {p : List ℕ} (x : Laid at mark o p k) where
-    mark-2 : Room k (hex s) p
-    mark-2 = room-first (hex s) (newline ∷ []) (room-next mark (hex s ++ (newline ∷ [])) x h)
+marked-whole : (kind : Response) (s : List ℕ) → responseEnd kind s ≡ markOf kind ++ restOf kind s
+marked-whole Without s = refl
+marked-whole Plain s = refl
+marked-whole Checked s = refl
 
-    mark-3 : {j : ℕ} {q : List ℕ} → Laid k (hex s) p q j → Room j (newline ∷ []) q
-    mark-3 y = room-next (hex s) (newline ∷ []) y (room-next mark (hex s ++ (newline ∷ [])) x h)
+without-rest : (kind : Response) (s : List ℕ) → isWithout kind ≡ true → restOf kind s ≡ []
+without-rest Without s e = refl
+without-rest Plain s e = let z : _≡_ {A = ℕ} 0 1 = cc in absurd (omega arith)
+without-rest Checked s e = let z : _≡_ {A = ℕ} 0 1 = cc in absurd (omega arith)
 
-module _ {at : ℕ} {o : List ℕ} {kind : Response} (s : List ℕ) where
-  pub without-room : kind ≡ Without → Room at (responseEnd kind s) o → Room at (w-none ++ (newline ∷ [])) o
-  without-room e h = rw e at h
+with-rest : (kind : Response) (s : List ℕ) → isWithout kind ≡ false → restOf kind s ≡ hex s ++ (newline ∷ [])
+with-rest Without s e = let z : _≡_ {A = ℕ} 0 1 = cc in absurd (omega arith)
+with-rest Plain s e = refl
+with-rest Checked s e = refl
 
-  pub without-laid : {k : ℕ} {p : List ℕ} → kind ≡ Without → Laid at (w-none ++ (newline ∷ [])) o p k → Laid at (responseEnd kind s) o p k
-  without-laid e x = rw e x
+module _ {at : ℕ} {o m : List ℕ} (kind : Response) (s : List ℕ) (e : m ≡ markOf kind) (h : Room at (responseEnd kind s) o) where
+  marked-room : Room at (m ++ restOf kind s) o
+  marked-room = rw (e, ← marked-whole kind s) h
 
-  module _ (e : kind ≡ Plain) (h : Room at (responseEnd kind s) o) where
-    pub plain-1 : Room at w-plain o
-    plain-1 = mark-1 w-plain s (rw e at h)
+  pub response-1 : Room at m o
+  response-1 = room-first m (restOf kind s) marked-room
 
-    module _ {k : ℕ} {p : List ℕ} (x : Laid at w-plain o p k) where
-      pub plain-2 : Room k (hex s) p
-      plain-2 = mark-2 w-plain s (rw e at h) x
+  module _ {k : ℕ} {p : List ℕ} (x : Laid at m o p k) where
+    pub without-laid : {b : Bool} → b ≡ isWithout kind → b ≡ true → Laid at (responseEnd kind s) o p k
+    without-laid d t = rw (marked-whole kind s, without-rest kind s (sym d ∙ t), append-nil, ← e) x
 
-      pub plain-3 : {j : ℕ} {q : List ℕ} → Laid k (hex s) p q j → Room j (newline ∷ []) q
-      plain-3 y = mark-3 w-plain s (rw e at h) x y
+    module _ {b : Bool} (d : b ≡ isWithout kind) (f : b ≡ false) where
+      w : isWithout kind ≡ false
+      w = sym d ∙ f
 
-      pub plain-laid : {i j : ℕ} {q r : List ℕ} → Laid k (hex s) p q j → Laid j (newline ∷ []) q r i → Laid at (responseEnd kind s) o r i
-      plain-laid y z = rw e (then x (then y z))
+      after-mark : Room k (hex s ++ (newline ∷ [])) p
+      after-mark = rw (← with-rest kind s w) (room-next m (restOf kind s) x marked-room)
 
-  module _ (e : kind ≡ Checked) (h : Room at (responseEnd kind s) o) where
-    pub checked-1 : Room at w-checked o
-    checked-1 = mark-1 w-checked s (rw e at h)
+      pub response-2 : Room k (hex s) p
+      response-2 = room-first (hex s) (newline ∷ []) after-mark
 
-    module _ {k : ℕ} {p : List ℕ} (x : Laid at w-checked o p k) where
-      pub checked-2 : Room k (hex s) p
-      checked-2 = mark-2 w-checked s (rw e at h) x
+      module _ {j : ℕ} {q : List ℕ} (y : Laid k (hex s) p q j) where
+        pub response-3 : Room j (newline ∷ []) q
+        response-3 = room-next (hex s) (newline ∷ []) y after-mark
 
-      pub checked-3 : {j : ℕ} {q : List ℕ} → Laid k (hex s) p q j → Room j (newline ∷ []) q
-      checked-3 y = mark-3 w-checked s (rw e at h) x y
-
-      pub checked-laid : {i j : ℕ} {q r : List ℕ} → Laid k (hex s) p q j → Laid j (newline ∷ []) q r i → Laid at (responseEnd kind s) o r i
-      checked-laid y z = rw e (then x (then y z))
+        pub response-laid : {i : ℕ} {r : List ℕ} → Laid j (newline ∷ []) q r i → Laid at (responseEnd kind s) o r i
+        response-laid z = rw (marked-whole kind s, with-rest kind s w, ← e) (then x (then y z))
 
 -- ## A frame
 
@@ -91,22 +95,22 @@ module _ {at : ℕ} {o : List ℕ} (n : Lengths) (kind : Response) (s : List ℕ
   frame-1 = room-first frameWord (mainPart ++ ((tab ∷ []) ++ responsePart)) whole
 
   module _ {k : ℕ} {p : List ℕ} (x : Laid at frameWord o p k) where
-    behind-word : Room k (mainPart ++ ((tab ∷ []) ++ responsePart)) p
-    behind-word = room-next frameWord (mainPart ++ ((tab ∷ []) ++ responsePart)) x whole
+    after-word : Room k (mainPart ++ ((tab ∷ []) ++ responsePart)) p
+    after-word = room-next frameWord (mainPart ++ ((tab ∷ []) ++ responsePart)) x whole
 
     pub frame-2 : Room k mainPart p
-    frame-2 = room-first mainPart ((tab ∷ []) ++ responsePart) behind-word
+    frame-2 = room-first mainPart ((tab ∷ []) ++ responsePart) after-word
 
     module _ {j : ℕ} {q : List ℕ} (y : Laid k mainPart p q j) where
-      behind-main : Room j ((tab ∷ []) ++ responsePart) q
-      behind-main = room-next mainPart ((tab ∷ []) ++ responsePart) y behind-word
+      after-main : Room j ((tab ∷ []) ++ responsePart) q
+      after-main = room-next mainPart ((tab ∷ []) ++ responsePart) y after-word
 
       pub frame-3 : Room j (tab ∷ []) q
-      frame-3 = room-first (tab ∷ []) responsePart behind-main
+      frame-3 = room-first (tab ∷ []) responsePart after-main
 
       module _ {i : ℕ} {r : List ℕ} (z : Laid j (tab ∷ []) q r i) where
         pub frame-4 : Room i responsePart r
-        frame-4 = room-next (tab ∷ []) responsePart z behind-main
+        frame-4 = room-next (tab ∷ []) responsePart z after-main
 
         pub frame-laid : {l : ℕ} {t : List ℕ} → Laid i responsePart r t l → Laid at (frameEnd n kind s) o t l
         unfolding frameEnd
@@ -123,17 +127,17 @@ module _ {at : ℕ} {o : List ℕ} (f : Fault) (h : Room at (faultEnd f) o) wher
   fault-1 = room-first w-fault (decimal (faultNumber f) ++ noParts) h
 
   module _ {k : ℕ} {p : List ℕ} (x : Laid at w-fault o p k) where
-    behind-fault : Room k (decimal (faultNumber f) ++ noParts) p
+    after-fault : Room k (decimal (faultNumber f) ++ noParts) p
     unfolding faultEnd
-    behind-fault = room-next w-fault (decimal (faultNumber f) ++ noParts) x h
+    after-fault = room-next w-fault (decimal (faultNumber f) ++ noParts) x h
 
     module _ {n : ℕ} (e : n ≡ faultNumber f) where
       pub fault-2 : Room k (decimal n) p
-      fault-2 = room-first (decimal n) noParts (rw e behind-fault)
+      fault-2 = room-first (decimal n) noParts (rw e after-fault)
 
       module _ {j : ℕ} {q : List ℕ} (y : Laid k (decimal n) p q j) where
         pub fault-3 : Room j noParts q
-        fault-3 = room-next (decimal n) noParts y (rw e behind-fault)
+        fault-3 = room-next (decimal n) noParts y (rw e after-fault)
 
         pub fault-laid : {i : ℕ} {r : List ℕ} → Laid j noParts q r i → Laid at (faultEnd f) o r i
         unfolding faultEnd
@@ -154,32 +158,32 @@ frame-holds s e h = rw e at h
 -- ## A line
 
 module _ {at : ℕ} {o : List ℕ} (customer vehicle : List ℕ) (r : Reading) (s : List ℕ) (h : Room at (lineIn customer vehicle r s) o) where
-  abbrev behindVehicle : List ℕ
-  behindVehicle = tabbed (decimal (placeOf r)) ++ endOf r s
+  abbrev afterVehicle : List ℕ
+  afterVehicle = tabbed (decimal (placeOf r)) ++ endOf r s
 
   pub line-1 : Room at (tabbed customer) o
   unfolding lineIn
-  line-1 = room-first (tabbed customer) (tabbed vehicle ++ behindVehicle) h
+  line-1 = room-first (tabbed customer) (tabbed vehicle ++ afterVehicle) h
 
   module _ {k : ℕ} {p : List ℕ} (x : Laid at (tabbed customer) o p k) where
-    behind-customer : Room k (tabbed vehicle ++ behindVehicle) p
+    after-customer : Room k (tabbed vehicle ++ afterVehicle) p
     unfolding lineIn
-    behind-customer = room-next (tabbed customer) (tabbed vehicle ++ behindVehicle) x h
+    after-customer = room-next (tabbed customer) (tabbed vehicle ++ afterVehicle) x h
 
     pub line-2 : Room k (tabbed vehicle) p
-    line-2 = room-first (tabbed vehicle) behindVehicle behind-customer
+    line-2 = room-first (tabbed vehicle) afterVehicle after-customer
 
     module _ {j : ℕ} {q : List ℕ} (y : Laid k (tabbed vehicle) p q j) where
-      behind-vehicle : Room j behindVehicle q
-      behind-vehicle = room-next (tabbed vehicle) behindVehicle y behind-customer
+      after-vehicle : Room j afterVehicle q
+      after-vehicle = room-next (tabbed vehicle) afterVehicle y after-customer
 
       module _ {n : ℕ} (e : n ≡ placeOf r) where
         pub line-3 : Room j (tabbed (decimal n)) q
-        line-3 = rw e (room-first (tabbed (decimal (placeOf r))) (endOf r s) behind-vehicle)
+        line-3 = rw e (room-first (tabbed (decimal (placeOf r))) (endOf r s) after-vehicle)
 
         module _ {i : ℕ} {t : List ℕ} (z : Laid j (tabbed (decimal n)) q t i) where
           pub line-4 : Room i (endOf r s) t
-          line-4 = room-next (tabbed (decimal (placeOf r))) (endOf r s) (rw e at z) behind-vehicle
+          line-4 = room-next (tabbed (decimal (placeOf r))) (endOf r s) (rw e at z) after-vehicle
 
           pub line-laid : {l : ℕ} {u : List ℕ} → Laid i (endOf r s) t u l → Laid at (lineIn customer vehicle r s) o u l
           unfolding lineIn

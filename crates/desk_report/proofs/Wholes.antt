@@ -7,9 +7,9 @@ use native.Mathlib.Omega.{arith}
 use lib.Dec.{eqb, ltb}
 use lib.ListN.{length, take, drop, length-append}
 use lib.Seq.{take-at}
-use borrow.Author.Tests.{lt-ltb, le-ltb, eqb-true, eqb-false, ne-eqb}
+use borrow.Author.Tests.{le-ltb, ltb-false, eqb-true, eqb-false, ne-eqb}
 use Rattle.laws.specs.Lent.{sets-first}
-use Rattle.laws.specs.Tests.{or-right}
+use Rattle.laws.specs.Tests.{neither}
 use Rattle.frame.specs.Faults.{mostBytes}
 use Rattle.frame.specs.ReadingOn.{answersIn}
 use Rattle.desk_text.specs.declared.Labels.{Labels}
@@ -172,13 +172,13 @@ module _ (s words : List ℕ) (enough : mostWidths ≤ length words) {left : Lis
 
 -- ## Too little lent
 
-module _ (s words entry : List ℕ) where
-  turned : lentShort (length words) (length entry) ≡ true → DeskPromise s words words entry entry FewLent
+module _ (s words entry : List ℕ) {b : Bool} (e : b ≡ lentShort (length words) (length entry)) where
+  pub few-lent : b ≡ true → DeskPromise s words words entry entry FewLent
   unfolding answering
-  turned e = record { tells-it = rw e; words-it = rw e; lends-it = rw e }
+  few-lent t = let d = sym e ∙ t in record { tells-it = rw d; words-it = rw d; lends-it = rw d }
 
-  pub few-words : length words < mostWidths → DeskPromise s words words entry entry FewLent
-  few-words h = turned (rw (lt-ltb (length words) mostWidths h))
+  pub words-enough : b ≡ false → mostWidths ≤ length words
+  words-enough f = ltb-false (length words) mostWidths (neither (ltb (length words) mostWidths) (ltb (length entry) mostText) (sym e ∙ f) .0)
 
-  pub few-bytes : length entry < mostText → DeskPromise s words words entry entry FewLent
-  few-bytes h = turned (or-right (ltb (length words) mostWidths) (ltb (length entry) mostText) (lt-ltb (length entry) mostText h))
+  pub bytes-enough : b ≡ false → mostText ≤ length entry
+  bytes-enough f = ltb-false (length entry) mostText (neither (ltb (length words) mostWidths) (ltb (length entry) mostText) (sym e ∙ f) .1)

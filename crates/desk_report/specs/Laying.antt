@@ -13,10 +13,8 @@ use Rattle.frame.specs.Answers.{faultNumber}
 use Rattle.desk_text.specs.Grammar.{newline, tab}
 use Rattle.desk_text.specs.Numerals.{decimal, hex}
 use Rattle.desk_text.specs.Report.{w-frame, w-quiet, w-unfinished, w-fault, w-none, lineOf, marked}
-use Rattle.desk_report.specs.declared.rows.Next.{Next}
-use Rattle.desk_report.specs.declared.rows.Next.the-variants.{At, Nowhere}
 
--- A text is laid from a place on, and `end` is the place behind it.
+-- A text is laid from a place on, and `end` is the place after it.
 pub record Laid (at : ℕ) (text entry exit : List ℕ) (end : ℕ) : Type 0 where
   pub ends : end ≡ at + length text
   pub lays : exit ≡ sets entry at text
@@ -25,7 +23,7 @@ pub record Laid (at : ℕ) (text entry exit : List ℕ) (end : ℕ) : Type 0 whe
 pub record Room (at : ℕ) (text lent : List ℕ) : Type 0 where
   pub fits : at + length text ≤ length lent
 
--- a field and the tab behind it
+-- a field and the tab after it
 abbrev pub tabbed : List ℕ → List ℕ
 tabbed f = f ++ (tab ∷ [])
 
@@ -59,7 +57,7 @@ Holds (Faulty fault next) s = Unit {0}
 Holds PastRecording s = Unit {0}
 Holds FewLentBytes s = Unit {0}
 
--- where an answer stands ..
+-- where an answer stands
 abbrev pub placeOf : Reading → ℕ
 placeOf (Frame lengths response opening next) = opening .0
 placeOf (Quiet next) = next .0
@@ -67,15 +65,6 @@ placeOf (Unfinished opening) = opening .0
 placeOf (Faulty fault next) = next .0
 placeOf PastRecording = 0
 placeOf FewLentBytes = 0
-
--- .. and where reading goes on behind it
-abbrev pub behindOf : Reading → Next
-behindOf (Frame lengths response opening next) = At (next .0)
-behindOf (Quiet next) = Nowhere
-behindOf (Unfinished opening) = Nowhere
-behindOf (Faulty fault next) = At (next .0)
-behindOf PastRecording = Nowhere
-behindOf FewLentBytes = Nowhere
 
 -- the line of an answer
 unfoldable pub lineIn : List ℕ → List ℕ → Reading → List ℕ → List ℕ

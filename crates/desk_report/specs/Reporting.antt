@@ -9,8 +9,8 @@ use Rattle.frame.specs.ReadingOn.{answersIn}
 use Rattle.desk_text.specs.declared.Labels.{Labels}
 use Rattle.desk_text.specs.Report.{rowOf, rowsOf}
 use Rattle.desk_text.specs.LabelPlaces.{customerPlace}
-use Rattle.desk_report.specs.declared.rows.Next.{Next}
-use Rattle.desk_report.specs.declared.rows.Next.the-variants.{At, Nowhere}
+use Rattle.desk_answer.specs.declared.Next.{Next}
+use Rattle.desk_answer.specs.declared.Next.the-variants.{At, Nowhere}
 use Rattle.desk_report.specs.declared.rows.Step.{Step}
 use Rattle.desk_report.specs.Laying.{Laid}
 
@@ -18,7 +18,7 @@ use Rattle.desk_report.specs.Laying.{Laid}
 abbrev pub answerAt : List ℕ → ℕ → Outcome
 answerAt ws p = reading ws p mostBytes
 
--- .. and where reading goes on behind it
+-- .. and where reading goes on after it
 abbrev pub onwards : Outcome → Next
 onwards (good main response kind opening next) = At next
 onwards (quiet next) = Nowhere
@@ -39,7 +39,7 @@ pub record Stepped (customer vehicle ws : List ℕ) (p at : ℕ) (entry exit : L
 abbrev pub customerIn : List ℕ → Labels → List ℕ
 customerIn s l = take (l .customer) (drop customerPlace s)
 
--- the vehicle's stands behind the customer's and a tab
+-- the vehicle's stands after the customer's and a tab
 abbrev pub vehicleIn : List ℕ → Labels → List ℕ
 vehicleIn s l = take (l .vehicle) (drop (customerPlace + l .customer + 1) s)
 

@@ -1,9 +1,7 @@
-// What the fields of a line are printed by. Each function lays its text from a place on and answers the place behind it.
-ghost use mathlib.Core.Path.{_≡_};
-ghost use Prim.Native.Nat.{_+_, _/_, _%_, _≤_, _<_};
+// What the fields of a line are printed by. Each function lays its text from a place on and answers the place after it.
+ghost use Prim.Native.Nat.{_+_, _≤_};
 ghost use lib.ListN.{length};
-ghost use Rattle.desk_text.specs.Numerals.{decimal, hexDigit, hex};
-ghost use Rattle.frame.specs.Answers.{faultNumber};
+ghost use Rattle.desk_text.specs.Numerals.{decimal, hex};
 ghost use Rattle.desk_report.specs.Laying.{Laid, Room, tabbed, responseEnd, frameEnd, faultEnd};
 use frame::Fault;
 use frame::Lengths;
@@ -18,7 +16,7 @@ pub(crate) fn put(s: &[u8], lent: &mut [u8], at: usize) -> usize
     at + s.len()
 }
 
-// A field and the tab behind it.
+// A field and the tab after it.
 pub(crate) fn put_field(s: &[u8], lent: &mut [u8], at: usize) -> usize
     requires { ⌜ Room at (tabbed (now s)) (now lent) ⌝ }
     ensures { λ r. ⌜ Laid at (tabbed (now (s .entry))) (now (lent .entry)) (now (lent .exit)) r ⌝ }
@@ -37,35 +35,13 @@ pub(crate) fn put_number(n: usize, lent: &mut [u8], at: usize) -> usize
     put(&digits[..k], lent, at)
 }
 
-// A number and the tab behind it.
+// A number and the tab after it.
 pub(crate) fn put_place(n: usize, lent: &mut [u8], at: usize) -> usize
     requires { ⌜ Room at (tabbed (decimal n)) (now lent) ⌝ }
     ensures { λ r. ⌜ Laid at (tabbed (decimal n)) (now (lent .entry)) (now (lent .exit)) r ⌝ }
 {
     let k = put_number(n, lent, at);
     put(b"\t", lent, k)
-}
-
-// The digit of a number below 16.
-fn hex_digit(d: u8) -> u8
-    requires { ⌜ d < 16 ⌝ }
-    ensures { λ r. ⌜ r ≡ hexDigit d ⌝ }
-{
-    if d < 10 { b'0' + d } else { b'A' - 10 + d }
-}
-
-// A byte's first hex digit.
-fn high(b: u8) -> u8
-    ensures { λ r. ⌜ r ≡ hexDigit (b / 16) ⌝ }
-{
-    hex_digit(b / 16)
-}
-
-// And its second.
-fn low(b: u8) -> u8
-    ensures { λ r. ⌜ r ≡ hexDigit (b % 16) ⌝ }
-{
-    hex_digit(b % 16)
 }
 
 // Bytes in upper case hex.
@@ -77,50 +53,25 @@ fn put_hex(s: &[u8], lent: &mut [u8], at: usize) -> usize
     let mut i = 0;
     while i < s.len() {
         let b = s[i];
-        lent[k] = high(b);
-        lent[k + 1] = low(b);
+        lent[k] = desk_answer::high(b);
+        lent[k + 1] = desk_answer::low(b);
         k += 2;
         i += 1;
     }
     k
 }
 
-// The number of a fault.
-fn fault_number(fault: Fault) -> usize
-    ensures { λ r. ⌜ r ≡ faultNumber fault ⌝ }
-{
-    match fault {
-        Fault::Noise => 11,
-        Fault::NoSof => 12,
-        Fault::Break => 13,
-        Fault::Stuck => 14,
-        Fault::LateSof => 15,
-        Fault::SplitByte => 16,
-        Fault::FewBytes => 17,
-        Fault::WrongCheck => 18,
-        Fault::EodAfterResponse => 19,
-        Fault::ThirteenthByte => 20,
-    }
-}
-
-// A response with its mark, or `-`; and the newline behind it.
+// A response with its mark, or `-`; and the newline after it.
 fn put_response(kind: Response, s: &[u8], lent: &mut [u8], at: usize) -> usize
     requires { ⌜ Room at (responseEnd kind (now s)) (now lent) ⌝ }
     ensures { λ r. ⌜ Laid at (responseEnd kind (now (s .entry))) (now (lent .entry)) (now (lent .exit)) r ⌝ }
 {
-    match kind {
-        Response::Without => put(b"-\n", lent, at),
-        Response::Plain => {
-            let k1 = put(b"p:", lent, at);
-            let k2 = put_hex(s, lent, k1);
-            put(b"\n", lent, k2)
-        }
-        Response::Checked => {
-            let k1 = put(b"c:", lent, at);
-            let k2 = put_hex(s, lent, k1);
-            put(b"\n", lent, k2)
-        }
+    let k1 = put(&desk_answer::mark(kind), lent, at);
+    if desk_answer::without(kind) {
+        return k1;
     }
+    let k2 = put_hex(s, lent, k1);
+    put(b"\n", lent, k2)
 }
 
 // The kind, the main part and the response of a frame, whose bytes stand first in s.
@@ -149,6 +100,6 @@ pub(crate) fn put_fault(fault: Fault, lent: &mut [u8], at: usize) -> usize
     ensures { λ r. ⌜ Laid at (faultEnd fault) (now (lent .entry)) (now (lent .exit)) r ⌝ }
 {
     let k1 = put(b"fault-", lent, at);
-    let k2 = put_number(fault_number(fault), lent, k1);
+    let k2 = put_number(frame_numbers::fault_number(fault) as usize, lent, k1);
     put(b"\t-\t-\n", lent, k2)
 }

@@ -17,12 +17,7 @@ use fields::put;
 use fields::put_number;
 use rows::put_rows;
 
-// What a caller lends: a word for each width that an input may have, and bytes for the longest text.
-const MOST_WIDTHS: usize = 16384;
-
-const MOST_TEXT: usize = 442463;
-
-// Where the customer's label begins in a good input: behind `own` and a tab.
+// Where the customer's label begins in a good input: after `own` and a tab.
 const CUSTOMER: usize = 4;
 
 // The report of a recording whose labels stand in the input: the header, and a line for each answer.
@@ -51,10 +46,7 @@ fn put_refusal(line: usize, lent: &mut [u8]) -> usize
 pub fn desk(input: &[u8], words: &mut [u32], lent: &mut [u8]) -> Answered
     ensures { λ r. ⌜ DeskPromise (now (input .entry)) (now (words .entry)) (now (words .exit)) (now (lent .entry)) (now (lent .exit)) r ⌝ }
 {
-    if words.len() < MOST_WIDTHS {
-        return Answered::FewLent;
-    }
-    if lent.len() < MOST_TEXT {
+    if desk_answer::too_little(words.len(), lent.len()) {
         return Answered::FewLent;
     }
     let judged = desk_judge::judge(input, words);

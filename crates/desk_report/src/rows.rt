@@ -3,24 +3,17 @@ ghost use mathlib.Core.Path.{_≡_};
 ghost use Prim.Native.Nat.{_≤_};
 ghost use lib.ListN.{length};
 ghost use Rattle.desk_text.specs.Report.{rowOf};
-ghost use Rattle.desk_report.specs.Laying.{Laid, Room, endOf, Holds, placeOf, behindOf, lineIn};
+ghost use Rattle.desk_report.specs.Laying.{Laid, Room, endOf, Holds, placeOf, lineIn};
 ghost use Rattle.desk_report.specs.Reporting.{answerAt, rowsFrom, Stepped};
 use crate::fields::put;
 use crate::fields::put_fault;
 use crate::fields::put_field;
 use crate::fields::put_frame;
 use crate::fields::put_place;
+use desk_answer::Next;
 use frame::Reading;
+use frame_numbers::MOST_BYTES;
 use units::Place;
-
-// The most bytes of a frame.
-const MOST_BYTES: usize = 12;
-
-// Where reading goes on behind an answer, or that it does not.
-pub(crate) enum Next {
-    At(usize),
-    Nowhere,
-}
 
 // The kind and the parts of an answer; a frame's bytes stand first in s.
 fn put_end(reading: Reading, s: &[u8], lent: &mut [u8], at: usize) -> usize
@@ -59,25 +52,6 @@ fn place(reading: Reading) -> usize
         Reading::Faulty { fault: _, next } => next.0,
         Reading::PastRecording => 0,
         Reading::FewLentBytes => 0,
-    }
-}
-
-// Where reading goes on: behind a frame and behind a fault.
-fn behind(reading: Reading) -> Next
-    ensures { λ r. ⌜ r ≡ behindOf reading ⌝ }
-{
-    match reading {
-        Reading::Frame {
-            lengths: _,
-            response: _,
-            opening: _,
-            next,
-        } => Next::At(next.0),
-        Reading::Quiet { next: _ } => Next::Nowhere,
-        Reading::Unfinished { opening: _ } => Next::Nowhere,
-        Reading::Faulty { fault: _, next } => Next::At(next.0),
-        Reading::PastRecording => Next::Nowhere,
-        Reading::FewLentBytes => Next::Nowhere,
     }
 }
 
@@ -122,7 +96,7 @@ fn put_answer(
     let mut s = [0u8; MOST_BYTES];
     let reading = frame_read::read(widths, Place(from), &mut s);
     let end = put_row(customer, vehicle, reading, &s, lent, at);
-    let next = behind(reading);
+    let next = desk_answer::after(reading);
     Step { end, next }
 }
 

@@ -17,7 +17,7 @@ use Rattle.frame.specs.Reading.{Outcome, good, quiet, unfinished, faulty, refus
 use Rattle.frame.specs.Answers.{faultNumber}
 use Rattle.frame.specs.Outcomes.{goesOn}
 use Rattle.frame.specs.ReadingOn.{nextOf, ReadsOn, last, more, reads-on}
-use Rattle.desk_text.specs.Grammar.{mostLabel}
+use Rattle.label.specs.Labels.{mostLabel}
 use Rattle.desk_text.specs.Input.{lines, mostWidths}
 use Rattle.desk_text.specs.Numerals.{decimal}
 use Rattle.desk_text.specs.Report.{lineOf, header, atOf, kindOf, mainOf, marked, responseOf, rowOf, rowsOf, answers, report}

@@ -11,7 +11,8 @@ use Rattle.frame.specs.Faults.{checksOut, fault}
 use Rattle.frame.specs.Reading.{decides, reading}
 use Rattle.frame.specs.ReadingOn.{answersIn}
 use Rattle.frame.specs.WorkedReading.{ffff}
-use Rattle.desk_text.specs.Grammar.{pieces, every, same, labelByte, isLabel, digit, spells, isWidth}
+use Rattle.label.specs.Labels.{every, labelByte, isLabel}
+use Rattle.desk_text.specs.Grammar.{pieces, same, digit, spells, isWidth}
 use Rattle.desk_text.specs.Input.{lines, own, iv, ownLine, ivLine, ivAt, badFrom, widthsFrom}
 use Rattle.desk_text.specs.Numerals.{decimalIn, decimal, hexDigit, hex}
 use Rattle.desk_text.specs.Report.{w-frame, w-quiet, w-none, lineOf, header, rowOf, rowsOf, report, deskOf}

@@ -10,7 +10,8 @@ use lib.ListN.{length, getD, length-append}
 use borrow.Author.Tests.{eqb-true, eqb-false, leb-true, ltb-true, not-true, ne-eqb}
 use mathlib.Core.Logic.{_⊎_, inl, inr}
 use Rattle.laws.specs.Tests.{never, both, upTo}
-use Rattle.desk_text.specs.Grammar.{tab, fields, every, isLabel, labelByte, mostLabel, digit, spells, spelt, pastU32, noLeadingZero, isWidth}
+use Rattle.label.specs.Labels.{every, isLabel, labelByte, mostLabel}
+use Rattle.desk_text.specs.Grammar.{tab, fields, digit, spells, spelt, pastU32, noLeadingZero, isWidth}
 use Rattle.desk_text.specs.Input.{Line, field, own, iv, ownLine, ivLine}
 use Rattle.desk_text.specs.PieceLaws.{joined, joined-pieces, same-is}
 

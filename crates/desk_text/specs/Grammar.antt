@@ -1,9 +1,10 @@
--- The desk's text from the bytes up: what parts them, what a label is, and what a width is.
+-- The desk's text from the bytes up: what parts them, and what a width is. What a label is stands in the room `label`.
 use Prim.Native.Nat.{ℕ, _+_, _-_, _*_}
 use mathlib.Core.Bool.{Bool, true, false, cond, not, _&&_, _||_}
 use mathlib.Core.List.{List, [], _∷_}
 use lib.Dec.{leb, eqb, ltb}
 use lib.ListN.{length, getD}
+use Rattle.label.specs.Labels.{among, every}
 
 -- ## Pieces
 
@@ -29,16 +30,7 @@ pieces b (x ∷ xs) = cond (eqb x b) ([] ∷ pieces b xs) (longer x (pieces b xs
 abbrev pub fields : List ℕ → List (List ℕ)
 fields l = pieces tab l
 
--- ## Tests
-
--- low up to high
-abbrev pub among : ℕ → ℕ → ℕ → Bool
-among low high x = leb low x && leb x high
-
--- every byte passes a test
-unfoldable pub every : (ℕ → Bool) → List ℕ → Bool
-every test [] = true
-every test (x ∷ xs) = test x && every test xs
+-- ## Words
 
 -- two texts are the same, byte by byte
 unfoldable pub same : List ℕ → List ℕ → Bool
@@ -46,20 +38,6 @@ same [] [] = true
 same [] (y ∷ ys) = false
 same (x ∷ xs) [] = false
 same (x ∷ xs) (y ∷ ys) = eqb x y && same xs ys
-
--- ## Labels
-
--- "ASCII letters, digits, `-` or `_`"
-unfoldable pub labelByte : ℕ → Bool
-labelByte x = among 97 122 x || (among 65 90 x || (among 48 57 x || (eqb x 45 || eqb x 95)))
-
--- the most bytes of a label
-abbrev pub mostLabel : ℕ
-mostLabel = 16
-
--- "Labels are 1..16 ASCII letters, digits, `-` or `_`"
-unfoldable pub isLabel : List ℕ → Bool
-isLabel l = among 1 mostLabel (length l) && every labelByte l
 
 -- ## Widths
 

@@ -4,7 +4,8 @@ use mathlib.Core.Bool.{Bool, true, false, cond, _&&_}
 use mathlib.Core.List.{List, [], _∷_}
 use lib.Dec.{eqb, leb}
 use lib.ListN.{length, getD}
-use Rattle.desk_text.specs.Grammar.{newline, fields, same, isLabel, isWidth, spelt}
+use Rattle.label.specs.Labels.{isLabel}
+use Rattle.desk_text.specs.Grammar.{newline, fields, same, isWidth, spelt}
 
 -- ## Lines
 

@@ -12,7 +12,8 @@ use Rattle.laws.specs.Tests.{never, both}
 use Rattle.frame.specs.declared.Response.{Response}
 use Rattle.frame.specs.declared.Response.the-variants.{Without, Plain, Checked}
 use Rattle.frame.specs.Reading.{Outcome, good, quiet, unfinished, faulty, refused}
-use Rattle.desk_text.specs.Grammar.{newline, tab, pieces, fields, every, labelByte, mostLabel, among, isLabel}
+use Rattle.label.specs.Labels.{every, labelByte, mostLabel, among, isLabel}
+use Rattle.desk_text.specs.Grammar.{newline, tab, pieces, fields}
 use Rattle.desk_text.specs.Input.{Line, shut, lines, firstBad, customerOf, vehicleOf, recordingOf}
 use Rattle.desk_text.specs.Numerals.{numeral, decimalIn, decimal, hexDigit, hex}
 use Rattle.desk_text.specs.Report.{w-customer, w-vehicle, w-at, w-kind, w-main, w-response, w-refused, lineOf, refusal, atOf, kindOf, mainOf, marked, responseOf, rowOf, rowsOf, answers, report, deskOf}

@@ -10,7 +10,8 @@ use lib.ListN.{length, take, drop}
 use borrow.Author.Tests.{eqb-true}
 use Rattle.bytes.specs.Bytes.{indexOf, indexAfter}
 use Rattle.laws.specs.Tests.{never}
-use Rattle.desk_text.specs.Grammar.{newline, longer, pieces, every, same}
+use Rattle.label.specs.Labels.{every}
+use Rattle.desk_text.specs.Grammar.{newline, longer, pieces, same}
 use Rattle.desk_text.specs.Input.{shut, unshut, onto, lines}
 
 -- ## The first piece

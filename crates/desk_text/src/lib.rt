@@ -1,6 +1,11 @@
 // The desk's text: the types that callers see. What the text is for every input, and what the calls promise, is defined in
 // specs/, in document 01's words; the code that works it out stands in the rooms above.
 
+// What every input can be answered with: a word for each width that it may have, and bytes for the longest text.
+pub const MOST_WIDTHS: usize = 16384;
+
+pub const MOST_TEXT: usize = 442463;
+
 // How many bytes each label of a good input has. The customer's stands after `own` and a tab, the vehicle's after it and
 // another tab.
 pub struct Labels {

@@ -56,7 +56,7 @@ byte-more c bs l at i h =
 pub byte-all : (c : Clock) (bs l : List ℕ) (at i : ℕ) → length bs ≤ i → sets l at (byteWidths c (take i bs)) ≡ sets l at (byteWidths c bs)
 byte-all c bs l at i h = ap (λ (rs : List ℕ). sets l at (byteWidths c rs)) (take-all i bs h)
 
--- Bytes, and one more behind them.
+-- Bytes, and one more after them.
 pub check-laid : (c : Clock) (check : ℕ) (bs l : List ℕ) (at : ℕ)
     → sets (sets l at (byteWidths c bs)) (at + 8 * length bs) (bitWidths c false (bitsOfByte check))
     ≡ sets l at (byteWidths c (bs ++ (check ∷ [])))
@@ -105,7 +105,7 @@ module _ (c : Clock) (main : List ℕ) (kind : Response) (rs l : List ℕ) (enou
     head-long : length h ≡ length l
     head-long = ap length headed ∙ length-sets l 0 (endWidth .0 ∷ c .sof .0 ∷ [])
 
-    -- so has the main part behind them
+    -- so has the main part after them
     pub main-room : at + 8 * (length main + 1) ≤ length h
     main-room = omega (arith, head-long, frame-words-length c main kind rs)
 
@@ -113,7 +113,7 @@ module _ (c : Clock) (main : List ℕ) (kind : Response) (rs l : List ℕ) (enou
       main-long : length m ≡ length l
       main-long = ap length laid ∙ length-sets h at (byteWidths c (main ++ (checkFrom allOnes main ∷ []))) ∙ head-long
 
-      -- and the response behind it
+      -- and the response after it
       pub response-room : eod + length (responseWidths c kind rs) ≤ length m
       response-room = omega (arith, main-long, frame-words-length c main kind rs, response-widths-length c kind rs)
 
@@ -121,7 +121,7 @@ module _ (c : Clock) (main : List ℕ) (kind : Response) (rs l : List ℕ) (enou
         response-long : length n ≡ length l
         response-long = ap length answered ∙ length-sets m eod (responseWidths c kind rs) ∙ main-long
 
-        -- and the closing end behind that
+        -- and the closing end after that
         pub closing-room : closing < length n
         closing-room = omega (arith, response-long, frame-words-length c main kind rs, response-widths-length c kind rs)
 

@@ -13,15 +13,10 @@ ghost use Rattle.symbol.specs.Sending.{bitWidth};
 ghost use Rattle.frame.specs.Writing.{bitWidths, byteWidths, responseWidths, frameWords, badMessage, WritePromise};
 use frame::Response;
 use frame::Writing;
+use frame_numbers::MOST_BYTES;
+use frame_numbers::MOST_WORDS;
 use symbol::Clock;
-
-// The most bytes of a frame, its checks included, and the words that the longest one takes.
-const MOST_BYTES: usize = 12;
-
-const MOST_WORDS: usize = 101;
-
-// The width of the opening and of the closing end.
-const END_WIDTH: u32 = 300;
+use symbol::END_SENT;
 
 // Writes the frame of a message, at a clock, into lent words. The bytes are given without check bytes: they are added.
 // The response's bytes count only where a response is asked for. A refusal changes nothing.
@@ -93,10 +88,10 @@ fn put_frame(clock: Clock, main: &[u8], kind: Response, response: &[u8], lent: &
     ensures { λ _. ⌜ now (lent .exit) ≡ sets (now (lent .entry)) 0 (frameWords clock (now (main .entry)) kind (now (response .entry))) ⌝ }
 {
     let sof = clock.sof;
-    let first = put_two(END_WIDTH, sof.0, lent, 0);
+    let first = put_two(END_SENT, sof.0, lent, 0);
     let eod = put_checked(clock, checkbyte::ALL_ONES, main, lent, first);
     let closing = put_response(clock, kind, response, lent, eod);
-    put(END_WIDTH, lent, closing);
+    put(END_SENT, lent, closing);
     closing + 1
 }
 
@@ -125,9 +120,9 @@ fn put_eod(clock: Clock, plain: bool, lent: &mut [u32], at: usize) -> usize
     ensures { λ r. ⌜ r ≡ at + 2 ⌝ }
     ensures { λ _. ⌜ now (lent .exit) ≡ sets (now (lent .entry)) at (clock .sof .0 ∷ bitWidth clock true plain .0 ∷ []) ⌝ }
 {
-    let sof = clock.sof;
+    let eod = clock.sof;
     let normalization = symbol::bit_width(clock, true, plain);
-    put_two(sof.0, normalization.0, lent, at)
+    put_two(eod.0, normalization.0, lent, at)
 }
 
 // Bytes and their check byte, with the register that stands before them: all ones, since each part is checked alone.
@@ -187,7 +182,7 @@ fn width(clock: Clock, active: bool, n: u8) -> u32
     w.0
 }
 
-// Two intervals, one behind the other.
+// Two intervals, one after the other.
 fn put_two(first: u32, second: u32, lent: &mut [u32], at: usize) -> usize
     requires { ⌜ at + 2 ≤ length (now lent) ⌝ }
     ensures { λ r. ⌜ r ≡ at + 2 ⌝ }

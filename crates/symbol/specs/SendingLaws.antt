@@ -11,10 +11,9 @@ use Rattle.symbol.specs.declared.Symbol.{Symbol}
 use Rattle.symbol.specs.declared.Symbol.the-variants.{Noise, Bit0, Bit1, Eod, Sof, Eof, Ifs, Break, Stuck}
 use Rattle.symbol.specs.declared.Clock.{Clock}
 use Rattle.symbol.specs.declared.Sent.the-variants.{For, Never}
-use Rattle.symbol.specs.Classes.{Window, classOf}
-use Rattle.symbol.specs.ClassLaws.{class-only}
+use Rattle.symbol.specs.Classes.{Window}
 use Rattle.symbol.specs.Clocks.{Short, Long, Start, withinOf, goodOf, nominalClock}
-use Rattle.symbol.specs.Sending.{bitWidth, endWidth, sentOf, SendingWindow}
+use Rattle.symbol.specs.Sending.{endWidth, sentOf, SendingWindow}
 
 -- a clock whose three widths lie in the sending windows
 pub record Good (c : Clock) : Type 0 where
@@ -102,18 +101,7 @@ sending-inside true Ifs w h = absurd h
 sending-inside true Break w h = absurd h
 sending-inside true Stuck w h = absurd h
 
--- What any good clock sends for a symbol has that symbol's class.
-pub sent-class : (c : Clock) (active : Bool) (s : Symbol) (w : Micros) → Good c → sentOf c active s ≡ For w → classOf active (w .0) ≡ s
-sent-class c active s w g e = class-only active s (w .0) (sending-inside active s (w .0) (sent-in c active s w g e))
-
 -- the symbol of a bit
 abbrev pub bitSymbol : Bool → Symbol
 bitSymbol false = Bit0
 bitSymbol true = Bit1
-
--- A bit that a good clock sends is read as that bit, at either level.
-pub bit-class : (c : Clock) (active one : Bool) → Good c → classOf active (bitWidth c active one .0) ≡ bitSymbol one
-bit-class c false false g = sent-class c false Bit0 (bitWidth c false false) g refl
-bit-class c false true g = sent-class c false Bit1 (bitWidth c false true) g refl
-bit-class c true false g = sent-class c true Bit0 (bitWidth c true false) g refl
-bit-class c true true g = sent-class c true Bit1 (bitWidth c true true) g refl

@@ -1,10 +1,10 @@
-// Symbols: what an interval of the line is, by its level and its width, and with what width a symbol is sent.
+// Symbols: what an interval of the line is, by its level and its width, and with what width a bit is sent.
 // A level is a bool in every room: true is active, false is passive.
 ghost use mathlib.Core.Path.{_≡_};
 ghost use mathlib.Core.Bool.{true, false};
 ghost use Rattle.symbol.specs.Classes.{classOf, endOf};
 ghost use Rattle.symbol.specs.Clocks.{withinOf, goodOf, nominalClock};
-ghost use Rattle.symbol.specs.Sending.{bitWidth, onlyWhere, sentOf};
+ghost use Rattle.symbol.specs.Sending.{bitWidth};
 use units::Micros;
 
 // The kinds of interval that document 01's table of widths tells apart.
@@ -61,29 +61,29 @@ const SOF_LEAST: u32 = 182;
 
 const SOF_MOST: u32 = 218;
 
-// What the nominal clock sends, and the width of an opening and a closing end, which is the same for every clock.
+// The width of an opening and a closing end, which is the same for every clock.
+pub const END_SENT: u32 = 300;
+
+// What the nominal clock sends.
 const SHORT_NOMINAL: u32 = 64;
 
 const LONG_NOMINAL: u32 = 128;
 
 const SOF_NOMINAL: u32 = 200;
 
-const END_SENT: u32 = 300;
-
 // The symbol of a passive interval, where a short bit is a 0.
 fn class_passive(w: u32) -> Symbol
     ensures { λ r. ⌜ r ≡ classOf false w ⌝ }
 {
-    let short = Symbol::Bit0;
-    let long = Symbol::Bit1;
     if w <= NOISE_LAST {
         return Symbol::Noise;
     }
     if w <= SHORT_LAST {
+        let short = Symbol::Bit0;
         return short;
     }
     if w <= LONG_LAST {
-        return long;
+        return Symbol::Bit1;
     }
     if w <= SOF_LAST {
         return Symbol::Eod;
@@ -98,16 +98,14 @@ fn class_passive(w: u32) -> Symbol
 fn class_active(w: u32) -> Symbol
     ensures { λ r. ⌜ r ≡ classOf true w ⌝ }
 {
-    let short = Symbol::Bit1;
-    let long = Symbol::Bit0;
     if w <= NOISE_LAST {
         return Symbol::Noise;
     }
     if w <= SHORT_LAST {
-        return short;
+        return Symbol::Bit1;
     }
     if w <= LONG_LAST {
-        return long;
+        return Symbol::Bit0;
     }
     if w <= SOF_LAST {
         return Symbol::Sof;
@@ -181,47 +179,10 @@ pub fn nominal() -> Clock
 pub fn bit_width(clock: Clock, active: bool, one: bool) -> Micros
     ensures { λ r. ⌜ r ≡ bitWidth clock active one ⌝ }
 {
-    let short = clock.short;
+    if active == one {
+        let short = clock.short;
+        return short;
+    }
     let long = clock.long;
-    if active {
-        if one {
-            return short;
-        }
-        return long;
-    }
-    if one {
-        return long;
-    }
-    short
-}
-
-// What is sent for a symbol that one level alone has.
-fn only_where(has: bool, width: Micros) -> Sent
-    ensures { λ r. ⌜ r ≡ onlyWhere has width ⌝ }
-{
-    if has {
-        return Sent::For(width);
-    }
-    Sent::Never
-}
-
-// The width that a symbol is sent with at a level: a bit at either, the SOF at the active one, the EOD and the opening
-// and closing end at the passive one.
-pub fn width_sent(clock: Clock, active: bool, symbol: Symbol) -> Sent
-    ensures { λ r. ⌜ r ≡ sentOf clock active symbol ⌝ }
-{
-    let sof = clock.sof;
-    let eod = clock.sof;
-    let end = Micros(END_SENT);
-    match symbol {
-        Symbol::Bit0 => Sent::For(bit_width(clock, active, false)),
-        Symbol::Bit1 => Sent::For(bit_width(clock, active, true)),
-        Symbol::Sof => only_where(active, sof),
-        Symbol::Eod => only_where(!active, eod),
-        Symbol::Ifs => only_where(!active, end),
-        Symbol::Noise => Sent::Never,
-        Symbol::Eof => Sent::Never,
-        Symbol::Break => Sent::Never,
-        Symbol::Stuck => Sent::Never,
-    }
+    long
 }

@@ -1,6 +1,9 @@
 // The table of widths, the sending windows and the nominal clock, found by trying every width.
+ghost use mathlib.Core.Path.{_≡_};
+ghost use Rattle.symbol.specs.Sending.{onlyWhere, sentOf};
 use crate::print;
 use symbol::Clock;
+use symbol::END_SENT;
 use symbol::Sent;
 use symbol::Symbol;
 use units::Micros;
@@ -159,13 +162,41 @@ pub(crate) fn clocks() {
     sending_window(2);
 }
 
+// What is sent for a symbol that one level alone has.
+fn only_where(has: bool, width: Micros) -> Sent
+    ensures { λ r. ⌜ r ≡ onlyWhere has width ⌝ }
+{
+    if has {
+        return Sent::For(width);
+    }
+    Sent::Never
+}
+
+// The width that a symbol is sent with at a level: a bit at either, the SOF at the active one, the EOD and the opening
+// and closing end at the passive one.
+fn sent(clock: Clock, active: bool, symbol: Symbol) -> Sent
+    ensures { λ r. ⌜ r ≡ sentOf clock active symbol ⌝ }
+{
+    match symbol {
+        Symbol::Bit0 => Sent::For(symbol::bit_width(clock, active, false)),
+        Symbol::Bit1 => Sent::For(symbol::bit_width(clock, active, true)),
+        Symbol::Sof => only_where(active, clock.sof),
+        Symbol::Eod => only_where(!active, clock.sof),
+        Symbol::Ifs => only_where(!active, Micros(END_SENT)),
+        Symbol::Noise => Sent::Never,
+        Symbol::Eof => Sent::Never,
+        Symbol::Break => Sent::Never,
+        Symbol::Stuck => Sent::Never,
+    }
+}
+
 // One line: the width that a symbol is sent with at a level, or that it never is.
 fn width_sent(active: bool, s: Symbol) {
     print::level(active);
     print::word(b" ");
     name(s);
-    let sent = symbol::width_sent(symbol::nominal(), active, s);
-    match sent {
+    let width = sent(symbol::nominal(), active, s);
+    match width {
         Sent::For(width) => {
             print::word(b" is sent for ");
             print::number(width.0);

@@ -1,6 +1,6 @@
 -- `c_calls::j1850_check_byte` gives the check byte that the room below answers.
 use mathlib.Core.Path.{ap}
-use Rattle.c_numbers.specs.Answers.{checkAs}
+use Rattle.c_frame_answers.specs.Answers.{checkAs}
 use borrow.Author.Needs.{needs}
 use Rattle.c_calls.proofs.j1850_check_byte.Statement.{statement}
 use Rattle.c_calls.proofs.j1850_check_byte.Tie as tie

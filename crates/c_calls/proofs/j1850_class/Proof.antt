@@ -1,6 +1,6 @@
 -- `c_calls::j1850_class` gives the number of the symbol that the room below answers.
 use mathlib.Core.Path.{ap}
-use Rattle.c_numbers.specs.Answers.{classAs}
+use Rattle.c_frame_answers.specs.Answers.{classAs}
 use borrow.Author.Needs.{needs}
 use Rattle.c_calls.proofs.j1850_class.Statement.{statement}
 use Rattle.c_calls.proofs.j1850_class.Tie as tie

@@ -1,6 +1,6 @@
 -- `c_calls::j1850_desk` gives what the room below promises of the input.
 use mathlib.Core.Path.{ap, _∙_}
-use Rattle.c_numbers.specs.Answers.{deskAs}
+use Rattle.c_frame_answers.specs.Answers.{deskAs}
 use borrow.Author.Needs.{needs}
 use Rattle.c_calls.proofs.j1850_desk.Statement.{statement}
 use Rattle.c_calls.proofs.j1850_desk.Tie as tie

@@ -1,6 +1,6 @@
 -- `c_calls::j1850_good_clock` gives what the room below answers of the clock.
 use mathlib.Core.Path.{ap}
-use Rattle.c_numbers.specs.Answers.{timedAs}
+use Rattle.c_frame_answers.specs.Answers.{timedAs}
 use borrow.Author.Needs.{needs}
 use Rattle.c_calls.proofs.j1850_good_clock.Statement.{statement}
 use Rattle.c_calls.proofs.j1850_good_clock.Tie as tie

@@ -1,6 +1,6 @@
 -- `c_calls::j1850_intervals` gives what the room below promises of the trace.
 use mathlib.Core.Path.{ap, _∙_}
-use Rattle.c_numbers.specs.Answers.{tracedAs}
+use Rattle.c_frame_answers.specs.Answers.{tracedAs}
 use borrow.Author.Needs.{needs}
 use Rattle.c_calls.proofs.j1850_intervals.Statement.{statement}
 use Rattle.c_calls.proofs.j1850_intervals.Tie as tie

@@ -1,6 +1,6 @@
 -- `c_calls::j1850_read` gives what the room below promises of the recording.
 use mathlib.Core.Path.{ap, _∙_}
-use Rattle.c_numbers.specs.Answers.{readAs}
+use Rattle.c_frame_answers.specs.Answers.{readAs}
 use borrow.Author.Needs.{needs}
 use Rattle.c_calls.proofs.j1850_read.Statement.{statement}
 use Rattle.c_calls.proofs.j1850_read.Tie as tie

@@ -49,15 +49,15 @@ use Rattle.live_lent.proofs.hear as inner
 use Rattle.live_lent.proofs.hear.Symbol as inner-def
 use Rattle.live_lent.proofs.hear.Symbol.{name as #inner}
 use Rattle.live_lent.proofs.hear.Met as inner-thm
-use Rattle.c_numbers.specs.declared.heard.HeardAnswer.{HeardAnswer}
-use Rattle.c_numbers.specs.Heard.{heardAs}
+use Rattle.c_live_answers.specs.declared.HeardAnswer.{HeardAnswer}
+use Rattle.c_live_answers.specs.Answers.{heardAs}
 use Rattle.walks.specs.Handing.{calls-handed, hands-back, walks-on}
-use Rattle.c_numbers.proofs.heard.HeardAnswer as N
-use Rattle.c_numbers.proofs.heard.HeardAnswer.Laws as N′
-use Rattle.c_numbers.proofs.heard_as as heard-as
-use Rattle.c_numbers.proofs.heard_as.Symbol as as-def
-use Rattle.c_numbers.proofs.heard_as.Symbol.{name as #as}
-use Rattle.c_numbers.proofs.heard_as.Met as as-thm
+use Rattle.c_live_answers.proofs.HeardAnswer as N
+use Rattle.c_live_answers.proofs.HeardAnswer.Laws as N′
+use Rattle.c_live_answers.proofs.heard_as as heard-as
+use Rattle.c_live_answers.proofs.heard_as.Symbol as as-def
+use Rattle.c_live_answers.proofs.heard_as.Symbol.{name as #as}
+use Rattle.c_live_answers.proofs.heard_as.Met as as-thm
 use Rattle.c_live.proofs.j1850_hear.Key.{name as #self}
 use Rattle.c_live.proofs.j1850_hear as f
 use Rattle.c_live.proofs.j1850_hear.Statement as stated
@@ -168,4 +168,4 @@ j1850-hear-spec 𝓤 H 𝓜 𝓖 𝓡 =
     (tables 𝓤 H 𝓜 𝓡 code.env .C) (tables 𝓤 H 𝓜 𝓡 code.env .Λ) #self code.function (code.unfolded 𝓤 H 𝓜 𝓡)
     (meets 𝓤 H (𝓖 .A) (givenOf 𝓤 H 𝓜 𝓖) (𝓜 .mem) (𝓡 .run) (tablesOf 𝓤 H 𝓜 (tables 𝓤 H 𝓜 𝓡 code.env))
     (cited 𝓤 H (tripleOf 𝓤 H (𝓖 .A) inner.signature (inner.spec 𝓤 H (𝓖 .A) (𝓜 .mem) (𝓡 .run))) 𝓜 𝓡 code.env #inner inner-def.routine code.calls-live-lent·hear (inner-thm.met 𝓤 H 𝓜 𝓖 𝓡))
-    (cited 𝓤 H (HeardAs 𝓤 H (𝓖 .A) (𝓜 .mem) (𝓡 .run)) 𝓜 𝓡 code.env #as as-def.routine code.calls-c-numbers·heard-as (as-thm.met 𝓤 H 𝓜 𝓖 𝓡)))
+    (cited 𝓤 H (HeardAs 𝓤 H (𝓖 .A) (𝓜 .mem) (𝓡 .run)) 𝓜 𝓡 code.env #as as-def.routine code.calls-c-live-answers·heard-as (as-thm.met 𝓤 H 𝓜 𝓖 𝓡)))

@@ -27,20 +27,20 @@ enum-told c = search needs
 enum-known-own : tie.Need-enum-known-own
 enum-known-own c = search needs
 
-add-behind-own : tie.Need-add-behind-own
-add-behind-own c = search needs
+add-after-own : tie.Need-add-after-own
+add-after-own c = search needs
 
-sub-behind-own : tie.Need-sub-behind-own
-sub-behind-own c = search needs
+sub-after-own : tie.Need-sub-after-own
+sub-after-own c = search needs
 
-part-behind-own-start : tie.Need-part-behind-own-start
-part-behind-own-start c = search needs
+part-after-own-start : tie.Need-part-after-own-start
+part-after-own-start c = search needs
 
-part-behind-own-end : tie.Need-part-behind-own-end
-part-behind-own-end c = search needs
+part-after-own-end : tie.Need-part-after-own-end
+part-after-own-end c = search needs
 
-behind-own-requires : tie.Need-behind-own-requires
-behind-own-requires c κs = search needs
+after-own-requires : tie.Need-after-own-requires
+after-own-requires c κs = search needs
 
 returns-3 : tie.Need-returns-3
 returns-3 c = search (needs, first-bad)
@@ -62,11 +62,11 @@ judge-spec =
     own-line-requires
     enum-told
     enum-known-own
-    add-behind-own
-    sub-behind-own
-    part-behind-own-start
-    part-behind-own-end
-    behind-own-requires
+    add-after-own
+    sub-after-own
+    part-after-own-start
+    part-after-own-end
+    after-own-requires
     returns-3
     same-length
     returns-4)

@@ -1,4 +1,4 @@
--- `desk_report::put_refusal` meets its contract: three texts, one behind another.
+-- `desk_report::put_refusal` meets its contract: three texts, one after another.
 use Rattle.desk_report.proofs.Lines.{refused-2, refused-3, refused-laid}
 use borrow.Author.Needs.{needs}
 use Rattle.desk_report.proofs.put_refusal.Statement.{statement}

@@ -1,4 +1,4 @@
--- `desk_report::put_report` meets its contract: the header, and the lines of all answers behind it.
+-- `desk_report::put_report` meets its contract: the header, and the lines of all answers after it.
 use Rattle.desk_report.proofs.Wholes.{report-1, report-2, report-laid}
 use borrow.Author.Needs.{needs}
 use Rattle.desk_report.proofs.put_report.Statement.{statement}

@@ -1,4 +1,4 @@
--- `frame_write::put_byte` meets its contract: four pairs of bits, one behind the other.
+-- `frame_write::put_byte` meets its contract: four pairs of bits, one after the other.
 use mathlib.Core.Path.{_∙_}
 use native.Mathlib.Omega.{arith}
 use Rattle.frame_write.proofs.Words.{pairs-laid}

@@ -1,4 +1,4 @@
--- `frame_write::put_bytes` meets its contract. The loop's invariant: the bytes so far are laid, and the next place is behind them.
+-- `frame_write::put_bytes` meets its contract. The loop's invariant: the bytes so far are laid, and the next place is after them.
 use Prim.Native.Nat.{_+_, _*_, _-_, _≤_}
 use Prim.Native.Nat.{ℕ}
 use mathlib.Core.Path.{_≡_, refl, ap, _∙_}

@@ -1,4 +1,4 @@
--- `frame_write::put_checked` meets its contract: the bytes, and behind them their check byte.
+-- `frame_write::put_checked` meets its contract: the bytes, and after them their check byte.
 use mathlib.Core.Path.{_∙_}
 use native.Mathlib.Omega.{arith}
 use Rattle.checkbyte.specs.Register.{checkFrom}

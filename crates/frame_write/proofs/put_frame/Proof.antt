@@ -1,4 +1,4 @@
--- `frame_write::put_frame` meets its contract: the parts of the frame, laid one behind the other.
+-- `frame_write::put_frame` meets its contract: the parts of the frame, laid one after the other.
 use mathlib.Core.Path.{_∙_}
 use native.Mathlib.Omega.{arith}
 use Rattle.frame_write.proofs.Words.{head-room, main-room, response-room, closing-room, closing-last, frame-laid}

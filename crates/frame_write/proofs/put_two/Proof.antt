@@ -1,4 +1,4 @@
--- `frame_write::put_two` meets its contract: one interval is laid, and the other behind it.
+-- `frame_write::put_two` meets its contract: one interval is laid, and the other after it.
 use mathlib.Core.Path.{_∙_}
 use native.Mathlib.Numerals.{add-one}
 use borrow.Author.Needs.{needs}

@@ -41,15 +41,15 @@ use Rattle.bench_lent.proofs.round as inner
 use Rattle.bench_lent.proofs.round.Symbol as inner-def
 use Rattle.bench_lent.proofs.round.Symbol.{name as #inner}
 use Rattle.bench_lent.proofs.round.Met as inner-thm
-use Rattle.c_numbers.specs.declared.contests.RoundAnswer as plain
-use Rattle.c_numbers.specs.Contests.{roundAs}
+use Rattle.c_bench_answers.specs.declared.RoundAnswer as plain
+use Rattle.c_bench_answers.specs.Answers.{roundAs}
 use Rattle.walks.specs.Handing.{calls-handed, hands-back, walks-on}
-use Rattle.c_numbers.proofs.contests.RoundAnswer as N
-use Rattle.c_numbers.proofs.contests.RoundAnswer.Laws as N′
-use Rattle.c_numbers.proofs.round_as as round-as
-use Rattle.c_numbers.proofs.round_as.Symbol as as-def
-use Rattle.c_numbers.proofs.round_as.Symbol.{name as #as}
-use Rattle.c_numbers.proofs.round_as.Met as as-thm
+use Rattle.c_bench_answers.proofs.RoundAnswer as N
+use Rattle.c_bench_answers.proofs.RoundAnswer.Laws as N′
+use Rattle.c_bench_answers.proofs.round_as as round-as
+use Rattle.c_bench_answers.proofs.round_as.Symbol as as-def
+use Rattle.c_bench_answers.proofs.round_as.Symbol.{name as #as}
+use Rattle.c_bench_answers.proofs.round_as.Met as as-thm
 use Rattle.c_calls.proofs.row.j1850_round.Key.{name as #self}
 use Rattle.c_calls.proofs.row.j1850_round as f
 use Rattle.c_calls.proofs.row.j1850_round.Statement as stated
@@ -139,4 +139,4 @@ j1850-round-spec 𝓤 H 𝓜 𝓖 𝓡 =
     (tables 𝓤 H 𝓜 𝓡 code.env .C) (tables 𝓤 H 𝓜 𝓡 code.env .Λ) #self code.function (code.unfolded 𝓤 H 𝓜 𝓡)
     (meets 𝓤 H (𝓖 .A) (givenOf 𝓤 H 𝓜 𝓖) (𝓜 .mem) (𝓡 .run) (tablesOf 𝓤 H 𝓜 (tables 𝓤 H 𝓜 𝓡 code.env))
     (cited 𝓤 H (tripleOf 𝓤 H (𝓖 .A) inner.signature (inner.spec 𝓤 H (𝓖 .A) (𝓜 .mem) (𝓡 .run))) 𝓜 𝓡 code.env #inner inner-def.routine code.calls-bench-lent·round (inner-thm.met 𝓤 H 𝓜 𝓖 𝓡))
-    (cited 𝓤 H (RoundAs 𝓤 H (𝓖 .A) (𝓜 .mem) (𝓡 .run)) 𝓜 𝓡 code.env #as as-def.routine code.calls-c-numbers·round-as (as-thm.met 𝓤 H 𝓜 𝓖 𝓡)))
+    (cited 𝓤 H (RoundAs 𝓤 H (𝓖 .A) (𝓜 .mem) (𝓡 .run)) 𝓜 𝓡 code.env #as as-def.routine code.calls-c-bench-answers·round-as (as-thm.met 𝓤 H 𝓜 𝓖 𝓡)))

@@ -1,4 +1,4 @@
--- `desk_report::put_fault` meets its contract: three texts, one behind another.
+-- `desk_report::put_fault` meets its contract: three texts, one after another.
 use Rattle.desk_report.proofs.Lines.{fault-1, fault-2, fault-3, fault-laid}
 use borrow.Author.Needs.{needs}
 use Rattle.desk_report.proofs.fields.put_fault.Statement.{statement}
@@ -12,6 +12,9 @@ put-requires c κs = search (needs, fault-1)
 
 fault-number-requires : tie.Need-fault-number-requires
 fault-number-requires c κs = search needs
+
+cast-put-number : tie.Need-cast-put-number
+cast-put-number c = search needs
 
 put-number-requires : tie.Need-put-number-requires
 put-number-requires c κs = search (needs, fault-2)
@@ -35,6 +38,7 @@ put-fault-spec =
     slice-aggregate-put
     put-requires
     fault-number-requires
+    cast-put-number
     put-number-requires
     slice-aggregate-put-2
     put-requires-2

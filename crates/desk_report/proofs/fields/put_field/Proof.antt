@@ -1,4 +1,4 @@
--- `desk_report::put_field` meets its contract: the field, and the tab behind it.
+-- `desk_report::put_field` meets its contract: the field, and the tab after it.
 use Rattle.desk_report.proofs.Laying.{then, room-first, room-next}
 use borrow.Author.Needs.{needs}
 use Rattle.desk_report.proofs.fields.put_field.Statement.{statement}

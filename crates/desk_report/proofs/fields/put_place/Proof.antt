@@ -1,4 +1,4 @@
--- `desk_report::put_place` meets its contract: the number, and the tab behind it.
+-- `desk_report::put_place` meets its contract: the number, and the tab after it.
 use Rattle.desk_report.proofs.Laying.{then, room-first, room-next}
 use borrow.Author.Needs.{needs}
 use Rattle.desk_report.proofs.fields.put_place.Statement.{statement}

@@ -21,8 +21,8 @@ put-row-requires c κs =
     let q = c .before .before .before .read .ensures in
     (read-prints (a .customer .now) (a .vehicle .now) (a .widths .now) (a .from) (h .0) refl q .holds, answer-room (a .customer .now) (a .vehicle .now) (a .widths .now) (a .from) (h .0) refl q (h .1))
 
-behind-requires : tie.Need-behind-requires
-behind-requires c κs = search needs
+after-requires : tie.Need-after-requires
+after-requires c κs = search needs
 
 same-length : tie.Need-same-length
 same-length c = search needs
@@ -30,7 +30,7 @@ same-length c = search needs
 returns : tie.Need-returns
 returns c =
     let a = c .before .before .before .before .before .before .before .before .before .before .before .before .before .args in
-    answer-stepped (a .customer .now) (a .vehicle .now) (a .widths .now) (a .from) (c .before .before .before .before .before .before .before .before .before .before .before .before .before .pre .0) refl (c .before .before .before .before .before .before .before .read .ensures) (c .before .before .before .put-row .ensures) (c .behind .ensures)
+    answer-stepped (a .customer .now) (a .vehicle .now) (a .widths .now) (a .from) (c .before .before .before .before .before .before .before .before .before .before .before .before .before .pre .0) refl (c .before .before .before .before .before .before .before .read .ensures) (c .before .before .before .put-row .ensures) (c .after .ensures)
 
 pub put-answer-spec : {M : Type 1} → statement M
 put-answer-spec =
@@ -40,6 +40,6 @@ put-answer-spec =
     read-requires
     slice-aggregate-put-row
     put-row-requires
-    behind-requires
+    after-requires
     same-length
     returns)

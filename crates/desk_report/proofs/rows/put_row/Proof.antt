@@ -1,4 +1,4 @@
--- `desk_report::put_row` meets its contract: four texts, one behind another.
+-- `desk_report::put_row` meets its contract: four texts, one after another.
 use Rattle.desk_report.proofs.Lines.{line-1, line-2, line-3, line-4, line-laid}
 use borrow.Author.Needs.{needs}
 use Rattle.desk_report.proofs.rows.put_row.Statement.{statement}
