@@ -21,7 +21,7 @@ use Rattle.bench.specs.Promises.{calledNumber}
 use Rattle.bench.specs.RowSettled.{called-once}
 use Rattle.bench_row.specs.declared.Bench.{Bench}
 use Rattle.bench_calls.specs.declared.Changed.{Changed}
-use Rattle.bench_row.specs.Scan.{getD-any}
+use Rattle.loops.specs.Scan.{getD-any}
 use Rattle.bench_calls.specs.Changes.{stationOf, ChangedBy, doneWith, rowNumber, andThen, loadRules, loadedBench, withdrawRules, withdrawnBench, clockRules, clockedBench}
 
 -- where three rules in a row turn nothing away, none of them holds

@@ -1,13 +1,12 @@
 -- How the rules of a round decide what it comes to.
 use Prim.Native.Nat.{ℕ, _≤_}
-use mathlib.Core.Path.{_≡_, refl, sym, ap, ap₂, _∙_}
+use mathlib.Core.Path.{_≡_, refl, sym, ap, _∙_}
 use mathlib.Core.Bool.{Bool, true, false, not, _||_}
 use mathlib.Core.List.{List, map}
 use native.Mathlib.Omega.{arith}
 use lib.Dec.{eqb, ltb}
-use lib.ListN.{length, length-map}
+use lib.ListN.{length}
 use borrow.Author.Tests.{eqb-true, ltb-false, not-false}
-use Rattle.laws.specs.Settled.{settled}
 use Rattle.frame.specs.Writing.{mostWords}
 use Rattle.bench.specs.declared.Station.{Station}
 use Rattle.bench.specs.declared.RoundTold.{RoundTold}
@@ -17,14 +16,11 @@ use Rattle.bench.specs.Round.{longest}
 use Rattle.bench.specs.Contest.{entryOf, sofsAsked, roundOf}
 use Rattle.bench.specs.Calls.{allSound, refuse, written}
 use Rattle.bench.specs.Promises.{toldNumber, RoundSaid, said, played, turnedAway}
-use Rattle.bench.specs.RoundSettled.{said-once}
-use Rattle.bench.specs.RowLaws.{winnerOf, faresAgainst, row-fares}
 use Rattle.bench_row.specs.declared.Bench.{Bench}
 use Rattle.bench_row.specs.declared.survey.Survey.{Survey}
 use Rattle.bench_row.specs.Surveys.{surveyOf}
-use Rattle.bench_round.specs.declared.playing.Played.{Played}
 use Rattle.bench_round.specs.Rounds.{roundNumber, numberOn, idleAll, afterVerdicts, PlayedBy}
-use Rattle.bench_round.specs.Playing.{after-is}
+use Rattle.bench_round.specs.Playing.{fares-length, after-is}
 
 -- where four rules in a row turn nothing away, none of them holds
 four : (x y z u : Bool) → refuse 38 x (refuse 39 y (refuse 32 z (refuse 42 u 0))) ≡ 0 → (y ≡ false) × (z ≡ false)
@@ -57,8 +53,7 @@ module _ (b : Bench) (lent : List ℕ) (v : Survey) (e : v ≡ surveyOf (b .at))
       → (after : List Station) → after ≡ afterVerdicts (b .at) (answer .verdicts) → (lent′ : List ℕ) → lent′ ≡ written (roundOf (b .at) .words) lent
       → PlayedBy b lent lent′ (record { bench = record { at = after; count = b .count }; answer = answer })
   plays t n answer s after f lent′ g =
-      let fares : length (roundOf (b .at) .fares) ≡ mostStations = ap length (row-fares (b .at) (passed t .0)) ∙ length-map (b .at) (faresAgainst (winnerOf (b .at))) ∙ n in
-      let so = f ∙ ap (afterVerdicts (b .at)) (ap (λ (x : RoundSaid). x .verdicts) s) ∙ after-is (b .at) (roundOf (b .at) .fares) n fares in
+      let so = f ∙ ap (afterVerdicts (b .at)) (ap (λ (x : RoundSaid). x .verdicts) s) ∙ after-is (b .at) (roundOf (b .at) .fares) n (fares-length (b .at) n (passed t .0)) in
       record {
         says = rw (first ∙ t) s;
         leaves = rw (first ∙ t) (ap (λ (l : List Station). record { at = l; count = b .count }) so);
@@ -74,10 +69,3 @@ module _ (b : Bench) (lent : List ℕ) (v : Survey) (e : v ≡ surveyOf (b .at))
         leaves = rw (first ∙ t);
         lends = rw (first ∙ t);
       }
-
--- No second answer, no other bench and no other words are what a round comes to.
-pub played-settled : {b : Bench} {lent lent′ lent″ : List ℕ} {r s : Played} → PlayedBy b lent lent′ r → PlayedBy b lent lent″ s → (r ≡ s) × (lent′ ≡ lent″)
-played-settled {r} {s} p q = (
-  ap₂ (λ (x : Bench) (y : RoundAnswer). record { bench = x; answer = y }) (settled (p .leaves) (q .leaves)) (said-once (r .answer) (s .answer) (settled (p .says) (q .says))),
-  settled (p .lends) (q .lends),
-)
