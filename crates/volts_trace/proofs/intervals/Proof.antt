@@ -1,11 +1,11 @@
--- `volts::intervals` meets its contract: at each return the tests on the way are the rule of the answer that is given.
+-- `volts_trace::intervals` meets its contract: at each return the tests on the way are the rule of the answer that is given.
 -- Assumes nothing.
 use mathlib.Core.Path.{refl, sym, _∙_}
 use borrow.Author.Needs.{needs}
 use Rattle.volts.specs.ExactlyWhen.{promised}
-use Rattle.volts.proofs.Rules.{too-many, not-too-many, too-few, not-too-few, gate-test, none}
-use Rattle.volts.proofs.intervals.Statement.{statement}
-use Rattle.volts.proofs.intervals.Tie as tie
+use Rattle.volts_trace.proofs.Rules.{too-many, not-too-many, too-few, not-too-few, gate-test, none}
+use Rattle.volts_trace.proofs.intervals.Statement.{statement}
+use Rattle.volts_trace.proofs.intervals.Tie as tie
 
 returns : tie.Need-returns
 returns c = promised _ _ _ (too-many _ (c .if1 .taken)) refl

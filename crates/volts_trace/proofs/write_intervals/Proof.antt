@@ -1,15 +1,15 @@
--- `volts::write_intervals` meets its contract. The loop's invariant is the record `Turn`. Assumes nothing.
+-- `volts_trace::write_intervals` meets its contract. The loop's invariant is the record `Turn`. Assumes nothing.
 use Prim.Native.Nat.{_-_}
 use mathlib.Core.Path.{ap, _∙_}
 use mathlib.Core.Logic.{⊎-elim}
 use native.Mathlib.Omega.{arith}
 use borrow.Author.Needs.{needs}
 use lib.ListN.{length}
 use Rattle.volts.specs.Levels.{levelAfter}
-use Rattle.volts.proofs.Usable.{usable-at}
-use Rattle.volts.proofs.Turns.{Turn, turn-first, turn-same, turn-other, turn-count, turn-words}
-use Rattle.volts.proofs.write_intervals.Statement.{statement}
-use Rattle.volts.proofs.write_intervals.Tie as tie
+use Rattle.volts_trace.proofs.Usable.{usable-at}
+use Rattle.volts_trace.proofs.Turns.{Turn, turn-first, turn-same, turn-other, turn-count, turn-words}
+use Rattle.volts_trace.proofs.write_intervals.Statement.{statement}
+use Rattle.volts_trace.proofs.write_intervals.Tie as tie
 
 abbrev Inv-loop : tie.InvT-loop
 Inv-loop gate samples words₀ next₀ width₀ active₀ i₀ words next width active i = Turn gate samples words₀ words (next .0) (width .0) active i

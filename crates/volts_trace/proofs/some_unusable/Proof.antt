@@ -1,13 +1,13 @@
--- `volts::some_unusable` meets its contract: the answer for what is left of the samples is the answer for all of them.
+-- `volts_trace::some_unusable` meets its contract: the answer for what is left of the samples is the answer for all of them.
 -- Assumes nothing.
 use Prim.Native.Nat.{_≤_, _-_}
 use mathlib.Core.Path.{_≡_}
 use borrow.Author.Needs.{needs}
 use lib.ListN.{length, drop}
 use Rattle.volts.specs.Tracing.{sampleUnusable}
-use Rattle.volts.proofs.Scanning.{scan-stops, scan-goes-on, scan-ends}
-use Rattle.volts.proofs.some_unusable.Statement.{statement}
-use Rattle.volts.proofs.some_unusable.Tie as tie
+use Rattle.volts_trace.proofs.Scanning.{scan-stops, scan-goes-on, scan-ends}
+use Rattle.volts_trace.proofs.some_unusable.Statement.{statement}
+use Rattle.volts_trace.proofs.some_unusable.Tie as tie
 
 abbrev Inv-loop : tie.InvT-loop
 Inv-loop gate samples i₀ i = (i ≤ length samples) × (sampleUnusable gate (drop i samples) ≡ sampleUnusable gate samples)
