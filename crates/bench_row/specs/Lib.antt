@@ -1,4 +1,3 @@
-pub mod Scan
 pub mod Surveys
 pub mod SurveyLaws
 pub mod Benches

@@ -2,6 +2,12 @@
 // specs/, in document 01's words; the code that works them out stands in the rooms above.
 use units::Place;
 
+// The words that have to be lent for a frame, which are enough for each.
+pub const MOST_WORDS: usize = 101;
+
+// The width of an opening and of a closing end that is sent.
+pub const END_WIDTH: u32 = 300;
+
 // How a frame was answered by another controller: not at all, with bytes alone, or with bytes and a check byte of their own.
 pub enum Response {
     Without,
