@@ -1,13 +1,17 @@
 -- The lanes of a round as the code keeps them: what each place asks at a bit, and what becomes of it.
-use Prim.Native.Nat.{ℕ, _+_, _/_}
+use Prim.Native.Nat.{ℕ, suc, _+_, _/_}
 use mathlib.Core.Bool.{Bool, false}
 use mathlib.Core.List.{List, [], _∷_}
 use lib.ListN.{getD}
-use Rattle.bench.specs.Stations.{mostStations}
+use Rattle.bench.specs.Stations.{mostStations, mostStored}
 use Rattle.bench_lane.specs.declared.Ask.{Ask}
 use Rattle.bench_lane.specs.declared.Asked.{Asked}
 use Rattle.bench_lane.specs.Lane.{Lane, askOf, lostBy, takenIn}
 use Rattle.loops.specs.Scan.{from}
+
+-- the most bytes that a place sends: those that a station stores, and their check byte
+abbrev pub mostSent : ℕ
+mostSent = suc mostStored
 
 -- the arrays that a round leaves as they are
 pub record Lanes : Type 0 where

@@ -16,12 +16,12 @@ use Rattle.bench_lane.specs.declared.Ask.{Ask}
 use Rattle.bench_lane.specs.declared.Ask.the-variants.{Out, Ended, Bit}
 use Rattle.bench_lane.specs.declared.Asked.{Asked}
 use Rattle.loops.specs.Scan.{from}
-use Rattle.bench_line.specs.Lanes.{Lanes}
+use Rattle.bench_line.specs.Lanes.{mostSent, Lanes}
 
 -- a place has at most 96 bits to send, in 12 bytes
 pub record LaneOk (l : Lanes) (i : ℕ) : Type 0 where
   pub fits : getD (l .counts) i 0 ≤ mostBits
-  pub whole : length (getD (l .frames) i []) ≡ 12
+  pub whole : length (getD (l .frames) i []) ≡ mostSent
 
 -- the same of all places
 abbrev pub LanesOk : Lanes → Type 0

@@ -39,14 +39,14 @@ pub record Sending (l : Lanes) (lost₀ old lost : List ℕ) (active : Bool) (j 
   pub inside : j ≤ mostBits
   pub reached : j ≤ length (courseOf l lost₀ .widths)
   pub whole : length lost ≡ mostStations
-  pub room : mostWords ≤ length old
+  pub space : mostWords ≤ length old
   pub long : length new ≡ length old
   pub written : new ≡ sets old 2 (take j (courseOf l lost₀ .widths))
   pub to-come : leftOf l lost active j ≡ record { widths = drop j (courseOf l lost₀ .widths); seats = courseOf l lost₀ .seats }
 
 -- Before the first bit nothing is sent.
 pub sending-start : (l : Lanes) (lost old : List ℕ) → length lost ≡ mostStations → mostWords ≤ length old → Sending l lost old lost false 0 old
-sending-start l lost old n h = record { inside = omega arith; reached = omega arith; whole = n; room = h; long = refl; written = refl; to-come = refl }
+sending-start l lost old n h = record { inside = omega arith; reached = omega arith; whole = n; space = h; long = refl; written = refl; to-come = refl }
 
 play-none : (active : Bool) (k : ℕ) (seats : List Seat) → play 0 active k seats ≡ over seats
 unfolding play
@@ -142,7 +142,7 @@ module _ (l : Lanes) (ok : LanesOk l) (lost₀ old lost : List ℕ) (active : Bo
             inside = omega arith;
             reached = omega (arith, d .2);
             whole = ap length m ∙ from-length (λ (i : ℕ). lostBy (j + 1) one (askOf (laneAt l lost j i) active j) (getD lost i 0)) 0 mostStations;
-            room = s .room;
+            space = s .space;
             long = length-set new (2 + j) (a .width) ∙ s .long;
             written =
                 ap (λ (r : List ℕ). set r (2 + j) (a .width)) (s .written)

@@ -19,6 +19,7 @@ use Rattle.bench.specs.Stations.{mostStations, mostStored, Bits, stored, empty,
 use Rattle.bench.specs.Round.{Pulse, Seat, out, on, mostBits}
 use Rattle.bench.specs.Contest.{absent, pulsesOf, holder, entryOf, seatOf}
 use Rattle.loops.specs.Scan.{from, from-same, from-list}
+use Rattle.bench_line.specs.Lanes.{mostSent}
 use Rattle.bench_line.specs.Seats.{LanesOk, clockAt, restAt, seatAt, seatsAt}
 use Rattle.bench_line.specs.Entries.{countOf, frameOf, widthOf, clipped, clippedCount, clippedFrame, lanesIn}
 
@@ -67,7 +68,7 @@ count-few s h = go (empty s)
     go true = omega arith
     go false = omega (arith, checked-length (stored s), stored-short s h)
 
-frame-whole : (s : Station) → s .len ≤ mostStored → length (frameOf s) ≡ 12
+frame-whole : (s : Station) → s .len ≤ mostStored → length (frameOf s) ≡ mostSent
 unfolding frameOf
 frame-whole s h =
     let m : List ℕ = stored s in

@@ -7,6 +7,7 @@ use native.Mathlib.Omega.{arith}
 use lib.ListN.{length, take, drop, getD, set, replicate, length-append, length-set, length-map, List·getD-map}
 use lib.Seq.{sets, length-sets, length-take-le, getD-take, take-at}
 use Rattle.laws.specs.Lent.{sets-then, sets-first}
+use Rattle.symbol.specs.Sending.{endWidth}
 use Rattle.frame.specs.Writing.{mostWords}
 use Rattle.bench.specs.declared.Station.{Station}
 use Rattle.bench.specs.declared.Fared.{Fared}
@@ -26,22 +27,26 @@ use Rattle.bench_round.specs.Rounds.{afterVerdict, afterVerdicts}
 
 -- ## The words and the answer
 
+-- the width of the opening and of the closing end
+abbrev end : ℕ
+end = endWidth .0
+
 -- Each of the 32 places fares somehow.
 pub fares-length : (at : List Station) → length at ≡ mostStations → allSound at ≡ true → length (roundOf at .fares) ≡ mostStations
 fares-length at n h = ap length (row-fares at h) ∙ length-map at (faresAgainst (winnerOf at)) ∙ n
 
 module _ (at : List Station) (n : length at ≡ mostStations) (h : allSound at ≡ true) (sof : ℕ) (q : sof ≡ longest (sofsAsked (map entryOf at)))
-    (old : List ℕ) (room : mostWords ≤ length old) (mid : List ℕ) (r : Contended)
-    (did : ContendedBy at (set (set old 0 300) 1 sof) mid r) where
+    (old : List ℕ) (space : mostWords ≤ length old) (mid : List ℕ) (r : Contended)
+    (did : ContendedBy at (set (set old 0 end) 1 sof) mid r) where
   course : Course
   course = courseOn at
 
   -- what contending comes to on sound stations and words enough
-  sent : ContendedIn course (set (set old 0 300) 1 sof) mid r
+  sent : ContendedIn course (set (set old 0 end) 1 sof) mid r
   unfolding course
   sent =
-      let k : mostWords ≤ length (set (set old 0 300) 1 sof) = omega (arith, room, length-set (set old 0 300) 1 sof, length-set old 0 300) in
-      subst (λ (c : Course). ContendedIn c (set (set old 0 300) 1 sof) mid r) (sound-sent at (set (set old 0 300) 1 sof) h k) did
+      let k : mostWords ≤ length (set (set old 0 end) 1 sof) = omega (arith, space, length-set (set old 0 end) 1 sof, length-set old 0 end) in
+      subst (λ (c : Course). ContendedIn c (set (set old 0 end) 1 sof) mid r) (sound-sent at (set (set old 0 end) 1 sof) h k) did
 
   -- There are at most 96 bits.
   pub few-bits : r .bits ≤ mostBits
@@ -50,50 +55,50 @@ module _ (at : List Station) (n : length at ≡ mostStations) (h : allSound at �
 
   -- the words in front of the closing end
   front : List ℕ
-  front = 300 ∷ sof ∷ course .widths
+  front = end ∷ sof ∷ course .widths
 
   front-length : length front ≡ 2 + r .bits
   unfolding front course
   front-length = omega (arith, sent .counts)
 
-  all-words : roundOf at .words ≡ front ++ (300 ∷ [])
+  all-words : roundOf at .words ≡ front ++ (end ∷ [])
   unfolding roundOf contestOf front course courseOn
   all-words = rw q
 
-  whole : length (front ++ (300 ∷ [])) ≡ 3 + r .bits
-  whole = omega (arith, length-append front (300 ∷ []), front-length)
+  whole : length (front ++ (end ∷ [])) ≡ 3 + r .bits
+  whole = omega (arith, length-append front (end ∷ []), front-length)
 
   -- the closing end is the last word written
-  closed : set mid (2 + r .bits) 300 ≡ (front ++ (300 ∷ [])) ++ drop (3 + r .bits) old
+  closed : set mid (2 + r .bits) end ≡ (front ++ (end ∷ [])) ++ drop (3 + r .bits) old
   unfolding front
   closed =
-      ap (λ (ws : List ℕ). set ws (2 + r .bits) 300) (sent .leaves)
-      ∙ ap (λ (ws : List ℕ). set ws (2 + r .bits) 300) (sets-then old 0 (300 ∷ sof ∷ []) (course .widths))
-      ∙ ap (λ (k : ℕ). set (sets old 0 front) k 300) (let z : 2 + r .bits ≡ 0 + length front = omega (arith, front-length) in z)
-      ∙ sets-then old 0 front (300 ∷ [])
-      ∙ sets-first old (front ++ (300 ∷ [])) (omega (arith, whole, few-bits))
-      ∙ ap (λ (k : ℕ). (front ++ (300 ∷ [])) ++ drop k old) whole
+      ap (λ (ws : List ℕ). set ws (2 + r .bits) end) (sent .leaves)
+      ∙ ap (λ (ws : List ℕ). set ws (2 + r .bits) end) (sets-then old 0 (end ∷ sof ∷ []) (course .widths))
+      ∙ ap (λ (k : ℕ). set (sets old 0 front) k end) (let z : 2 + r .bits ≡ 0 + length front = omega (arith, front-length) in z)
+      ∙ sets-then old 0 front (end ∷ [])
+      ∙ sets-first old (front ++ (end ∷ [])) (omega (arith, whole, few-bits))
+      ∙ ap (λ (k : ℕ). (front ++ (end ∷ [])) ++ drop k old) whole
 
   -- No word is added or lost.
   pub mid-length : length mid ≡ length old
   mid-length =
-      ap length (sent .leaves) ∙ length-sets (set (set old 0 300) 1 sof) 2 (course .widths)
-      ∙ length-set (set old 0 300) 1 sof ∙ length-set old 0 300
+      ap length (sent .leaves) ∙ length-sets (set (set old 0 end) 1 sof) 2 (course .widths)
+      ∙ length-set (set old 0 end) 1 sof ∙ length-set old 0 end
 
   -- With the closing end after them they are the round's words ..
-  pub words-are : set mid (2 + r .bits) 300 ≡ written (roundOf at .words) old
-  words-are = closed ∙ ap (λ (k : ℕ). (front ++ (300 ∷ [])) ++ drop k old) (sym whole) ∙ ap (λ (ws : List ℕ). ws ++ drop (length ws) old) (sym all-words)
+  pub words-are : set mid (2 + r .bits) end ≡ written (roundOf at .words) old
+  words-are = closed ∙ ap (λ (k : ℕ). (front ++ (end ∷ [])) ++ drop k old) (sym whole) ∙ ap (λ (ws : List ℕ). ws ++ drop (length ws) old) (sym all-words)
 
   -- .. and the sum of all but that end is its line time ..
-  pub time-is : sumOf (take (2 + r .bits) (set mid (2 + r .bits) 300)) ≡ roundOf at .lineTime
+  pub time-is : sumOf (take (2 + r .bits) (set mid (2 + r .bits) end)) ≡ roundOf at .lineTime
   unfolding roundOf contestOf front course courseOn
   time-is =
-      ap (λ (ws : List ℕ). sumOf (take (2 + r .bits) ws)) (closed ∙ append-assoc front (300 ∷ []) (drop (3 + r .bits) old))
-      ∙ ap sumOf (take-at front (300 ∷ drop (3 + r .bits) old) (2 + r .bits) front-length)
-      ∙ ap (λ (s : ℕ). sumOf (300 ∷ s ∷ course .widths)) q
+      ap (λ (ws : List ℕ). sumOf (take (2 + r .bits) ws)) (closed ∙ append-assoc front (end ∷ []) (drop (3 + r .bits) old))
+      ∙ ap sumOf (take-at front (end ∷ drop (3 + r .bits) old) (2 + r .bits) front-length)
+      ∙ ap (λ (s : ℕ). sumOf (end ∷ s ∷ course .widths)) q
 
   -- .. which a u32 holds.
-  pub time-bound : sumOf (take (2 + r .bits) (set mid (2 + r .bits) 300)) ≤ 14438
+  pub time-bound : sumOf (take (2 + r .bits) (set mid (2 + r .bits) end)) ≤ 14438
   time-bound = omega (arith, time-is, row-comes at h .bound)
 
   fares-are : r .verdicts ≡ map verdictOf (roundOf at .fares)
@@ -107,7 +112,7 @@ module _ (at : List Station) (n : length at ≡ mostStations) (h : allSound at �
       ∙ ap (λ (k : ℕ). map verdictOf (roundOf at .fares) ++ replicate k (verdictOf Idle)) (sym z)
 
   -- The answer is the definition's.
-  pub answer-is : (time : ℕ) → time ≡ sumOf (take (2 + r .bits) (set mid (2 + r .bits) 300))
+  pub answer-is : (time : ℕ) → time ≡ sumOf (take (2 + r .bits) (set mid (2 + r .bits) end))
       → (let x : RoundSaid = record { number = 0; verdicts = r .verdicts; words = 2 + r .bits + 1; lineTime = time } in x) ≡ played (roundOf at)
   answer-is time f =
       let k : 2 + r .bits + 1 ≡ length (roundOf at .words) = omega (arith, ap length all-words, whole) in
@@ -181,7 +186,7 @@ pub record Settling (at : List Station) (verdicts : List Verdict) (first now : L
   pub inside : i ≤ mostStations
   pub places : length at ≡ mostStations
   pub answers : length verdicts ≡ mostStations
-  pub room : length first ≡ mostStations
+  pub space : length first ≡ mostStations
   pub so-far : now ≡ filled (afterVerdict at verdicts) first i
 
 module _ {at : List Station} {verdicts : List Verdict} {first now : List Station} {i : ℕ} (so : Settling at verdicts first now i) where
@@ -192,14 +197,14 @@ module _ {at : List Station} {verdicts : List Verdict} {first now : List Station
         inside = omega arith;
         places = so .places;
         answers = so .answers;
-        room = so .room;
+        space = so .space;
         so-far =
             ap (λ (r : List Station). set r i x) (so .so-far)
-            ∙ fill-more (afterVerdict at verdicts) first i x x (omega (arith, so .room))
+            ∙ fill-more (afterVerdict at verdicts) first i x x (omega (arith, so .space))
             (p ∙ ap₂ (λ (v : Verdict) (s : Station). afterFare (v .fared) s) (getD-any verdicts i e (verdictOf Idle) (omega (arith, so .answers))) (getD-any at i d blank (omega (arith, so .places))));
       }
 
   -- all of them
   pub settle-all : mostStations ≤ i → now ≡ afterVerdicts at verdicts
   unfolding afterVerdicts
-  settle-all h = so .so-far ∙ fill-all (afterVerdict at verdicts) first i mostStations (so .room) h (so .inside)
+  settle-all h = so .so-far ∙ fill-all (afterVerdict at verdicts) first i mostStations (so .space) h (so .inside)

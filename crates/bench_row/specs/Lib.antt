@@ -1,3 +1,4 @@
 pub mod Surveys
 pub mod SurveyLaws
 pub mod Benches
+pub mod Whole

@@ -1,5 +1,6 @@
 -- `bench_round::after_round` meets its contract: the stations are seen to, place by place.
 use Prim.Native.Nat.{_-_}
+use Rattle.bench.specs.Stations.{mostStations}
 use Rattle.loops.specs.Scan.{fill-start}
 use Rattle.bench_round.specs.Playing.{Settling, settle-more, settle-all}
 use borrow.Author.Needs.{needs}
@@ -10,10 +11,10 @@ abbrev Inv-loop : tie.InvT-loop
 Inv-loop at verdicts next₀ i₀ next i = Settling at verdicts next₀ next i
 
 abbrev μ-loop : tie.MeasureT-loop
-μ-loop at verdicts next₀ i₀ next i = 32 - i
+μ-loop at verdicts next₀ i₀ next i = mostStations - i
 
 loop-holds : tie.Need-loop-holds Inv-loop μ-loop
-loop-holds c = record { inside = search needs; places = search needs; answers = search needs; room = search needs; so-far = fill-start _ _ }
+loop-holds c = record { inside = search needs; places = search needs; answers = search needs; space = search needs; so-far = fill-start _ _ }
 
 mul-station : tie.Need-mul-station Inv-loop μ-loop
 mul-station c = search needs

@@ -1,5 +1,5 @@
 -- `bench_line::count_of` meets its contract.
-use Rattle.bench_line.proofs.Whole.{whole}
+use Rattle.bench_row.specs.Whole.{whole}
 use Rattle.bench_line.specs.EntryLaws.{count-none, count-some}
 use borrow.Author.Needs.{needs}
 use Rattle.bench_line.proofs.entries.count_of.Statement.{statement}

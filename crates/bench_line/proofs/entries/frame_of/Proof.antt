@@ -2,7 +2,7 @@
 use mathlib.Core.Path.{sym}
 use native.Mathlib.Omega.{arith}
 use lib.Seq.{length-take-le}
-use Rattle.bench_line.proofs.Whole.{whole}
+use Rattle.bench_row.specs.Whole.{whole}
 use Rattle.bench_line.specs.EntryLaws.{frame-at}
 use borrow.Author.Needs.{needs}
 use Rattle.bench_line.proofs.entries.frame_of.Statement.{statement}

@@ -3,16 +3,17 @@ use Prim.Native.Nat.{_≤_, _-_}
 use mathlib.Core.Path.{_≡_, refl, _∙_, ap}
 use lib.ListN.{set}
 use Rattle.loops.specs.Scan.{filled, fill-start, fill-more}
+use Rattle.bench.specs.Stations.{mostStations}
 use Rattle.bench_line.specs.EntryLaws.{verdictAt, verdicts-end}
 use borrow.Author.Needs.{needs}
 use Rattle.bench_line.proofs.fares.verdicts.Statement.{statement}
 use Rattle.bench_line.proofs.fares.verdicts.Tie as tie
 
 abbrev Inv-loop : tie.InvT-loop
-Inv-loop counts lost all₀ i₀ all i = (i ≤ 32) × (all ≡ filled (verdictAt counts lost) all₀ i)
+Inv-loop counts lost all₀ i₀ all i = (i ≤ mostStations) × (all ≡ filled (verdictAt counts lost) all₀ i)
 
 abbrev μ-loop : tie.MeasureT-loop
-μ-loop counts lost all₀ i₀ all i = 32 - i
+μ-loop counts lost all₀ i₀ all i = mostStations - i
 
 loop-holds : tie.Need-loop-holds Inv-loop μ-loop
 loop-holds c = (search needs, fill-start _ _)

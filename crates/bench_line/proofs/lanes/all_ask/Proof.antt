@@ -2,6 +2,7 @@
 use Prim.Native.Nat.{_≤_}
 use mathlib.Core.Path.{_≡_}
 use lib.ListN.{drop}
+use Rattle.bench.specs.Stations.{mostStations}
 use Rattle.bench_line.specs.Lanes.{lanesOf, asksAt, allAsked}
 use Rattle.bench_line.specs.LoopLaws.{ask-start, ask-more, ask-all}
 use borrow.Author.Needs.{needs}
@@ -9,7 +10,7 @@ use Rattle.bench_line.proofs.lanes.all_ask.Statement.{statement}
 use Rattle.bench_line.proofs.lanes.all_ask.Tie as tie
 
 abbrev Inv-loop : tie.InvT-loop
-Inv-loop counts frames shorts longs lost active j all₀ i₀ all i = (i ≤ 32) × (all ≡ allAsked active (drop i (asksAt (lanesOf counts frames shorts longs) lost active j)))
+Inv-loop counts frames shorts longs lost active j all₀ i₀ all i = (i ≤ mostStations) × (all ≡ allAsked active (drop i (asksAt (lanesOf counts frames shorts longs) lost active j)))
 
 abbrev μ-loop : tie.MeasureT-loop
 μ-loop counts frames shorts longs lost active j all₀ i₀ all i = i

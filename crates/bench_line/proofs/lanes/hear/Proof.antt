@@ -3,6 +3,7 @@ use Prim.Native.Nat.{_≤_, _-_}
 use mathlib.Core.Path.{_≡_}
 use lib.ListN.{length}
 use Rattle.loops.specs.Scan.{filled, fill-start}
+use Rattle.bench.specs.Stations.{mostStations}
 use Rattle.bench_line.specs.Lanes.{lanesOf}
 use Rattle.bench_line.specs.LoopLaws.{heardAt, hear-more, hear-all}
 use borrow.Author.Needs.{needs}
@@ -10,10 +11,10 @@ use Rattle.bench_line.proofs.lanes.hear.Statement.{statement}
 use Rattle.bench_line.proofs.lanes.hear.Tie as tie
 
 abbrev Inv-loop : tie.InvT-loop
-Inv-loop counts frames shorts longs lost₀ active j one i₀ lost i = (i ≤ 32) × (length lost₀ ≡ 32) × (lost ≡ filled (heardAt (lanesOf counts frames shorts longs) lost₀ active j one) lost₀ i)
+Inv-loop counts frames shorts longs lost₀ active j one i₀ lost i = (i ≤ mostStations) × (length lost₀ ≡ mostStations) × (lost ≡ filled (heardAt (lanesOf counts frames shorts longs) lost₀ active j one) lost₀ i)
 
 abbrev μ-loop : tie.MeasureT-loop
-μ-loop counts frames shorts longs lost₀ active j one i₀ lost i = 32 - i
+μ-loop counts frames shorts longs lost₀ active j one i₀ lost i = mostStations - i
 
 loop-holds : tie.Need-loop-holds Inv-loop μ-loop
 loop-holds c = (search needs, search needs, fill-start _ _)

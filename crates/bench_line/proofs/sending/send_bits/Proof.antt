@@ -1,5 +1,6 @@
 -- `bench_line::send_bits` meets its contract: what is written and what is still to come make up the whole, at each bit.
 use Prim.Native.Nat.{_-_}
+use Rattle.bench.specs.Round.{mostBits}
 use Rattle.bench_line.specs.Lanes.{lanesOf}
 use Rattle.bench_line.specs.Sending.{Sending, sending-start, sending-more, sending-over, sending-last}
 use borrow.Author.Needs.{needs}
@@ -10,7 +11,7 @@ abbrev Inv-loop : tie.InvT-loop
 Inv-loop counts frames shorts longs lost₀ words₀ active₀ j₀ lost words active j = Sending (lanesOf counts frames shorts longs) lost₀ words₀ lost active j words
 
 abbrev μ-loop : tie.MeasureT-loop
-μ-loop counts frames shorts longs lost₀ words₀ active₀ j₀ lost words active j = 96 - j
+μ-loop counts frames shorts longs lost₀ words₀ active₀ j₀ lost words active j = mostBits - j
 
 loop-holds : tie.Need-loop-holds Inv-loop μ-loop
 loop-holds c = sending-start _ _ _ (c .before .pre .1) (c .before .pre .2)
