@@ -18,7 +18,7 @@ use Rattle.frame.specs.WidthLaws.{with-check-length}
 use Rattle.frame.specs.Faults.{mostBytes}
 use Rattle.frame.specs.Reading.{good, reading}
 use Rattle.frame.specs.Waves.{Wave, still, pulse, bitSymbols, byteSymbols, FrameWave}
-use Rattle.frame.specs.Writing.{badMessage}
+use Rattle.frame.specs.Writing.{frameSent, badMessage}
 use Rattle.frame.specs.Admitted.{admitted}
 use Rattle.frame.specs.ReadBack.{reads-wave}
 use Rattle.bench.specs.declared.Station.{Station}
@@ -70,11 +70,11 @@ fits x lo hi = admitted x Without [] .1 (record { some-main = lo; some-response 
 -- closing end.
 pub round-reads : (lent : List ℕ) (row : List Station) → taken (round lent) row ≡ true → (x : List ℕ) → winnerOf row ≡ bitsSent x
     → Bytes x → 1 ≤ length x → length x ≤ mostStored → (bytesLent : ℕ) → mostBytes ≤ bytesLent
-    → reading (lentAfter row lent) 0 bytesLent ≡ good (withCheck x) [] Without 0 (2 + length (bitsSent x))
+    → reading (lentAfter row lent) 0 bytesLent ≡ good (frameSent x Without [] 0 (2 + length (bitsSent x)))
 unfolding lentAfter
 round-reads lent row t x e b lo hi n h =
     let l = on-the-line lent row t in
     let k : 0 + length (roundOf row .words) - 1 ≡ 2 + length (bitsSent x) = omega (arith, l .number, ap length e) in
     rw t
     (reads-wave [] (roundOf row .words) (drop (length (roundOf row .words)) lent) x Without [] n (round-wave row x l e) (fits x lo hi) b tt refl h
-    ∙ ap (λ (j : ℕ). good (withCheck x) [] Without 0 j) k)
+    ∙ ap (λ (j : ℕ). good (frameSent x Without [] 0 j)) k)

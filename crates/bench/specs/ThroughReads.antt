@@ -9,11 +9,11 @@ use lib.ListN.{length, take, length-take}
 use borrow.Author.Tests.{leb-true}
 use Rattle.laws.specs.Tests.{both}
 use Rattle.symbol.specs.Clocks.{goodOf}
-use Rattle.checkbyte.specs.Register.{withCheck}
 use Rattle.checkbyte.specs.Differ.{Bytes}
 use Rattle.frame.specs.declared.Response.the-variants.{Without}
 use Rattle.frame.specs.Faults.{mostBytes}
 use Rattle.frame.specs.Reading.{good, reading}
+use Rattle.frame.specs.Writing.{frameSent}
 use Rattle.bench.specs.declared.Station.{Station}
 use Rattle.bench.specs.declared.Fared.the-variants.{Through}
 use Rattle.bench.specs.Stations.{mostStored, bitsSent, stored, empty, waitingAt, sound}
@@ -51,7 +51,7 @@ stored-few s h =
 pub through-reads : (lent : List ℕ) (row : List Station) → taken (round lent) row ≡ true → (i : ℕ) → fareAt row i ≡ Through
     → InMemory (stationAt row i) → (bytesLent : ℕ) → mostBytes ≤ bytesLent
     → reading (lentAfter row lent) 0 bytesLent
-    ≡ good (withCheck (stored (stationAt row i))) [] Without 0 (2 + length (bitsSent (stored (stationAt row i))))
+    ≡ good (frameSent (stored (stationAt row i)) Without [] 0 (2 + length (bitsSent (stored (stationAt row i)))))
 through-reads lent row t i f mem n h =
     let s : Station = stationAt row i in
     let r = round-taken lent row t in

@@ -11,11 +11,11 @@ use lib.ListN.{length, take, getD}
 use lib.Seq.{getD-set-same}
 use borrow.Author.Tests.{eq-eqb}
 use Rattle.laws.specs.Tests.{never}
-use Rattle.checkbyte.specs.Register.{withCheck}
 use Rattle.checkbyte.specs.Differ.{Bytes}
 use Rattle.frame.specs.declared.Response.the-variants.{Without}
 use Rattle.frame.specs.Faults.{mostBytes}
 use Rattle.frame.specs.Reading.{good, reading}
+use Rattle.frame.specs.Writing.{frameSent}
 use Rattle.bench.specs.declared.Station.{Station}
 use Rattle.bench.specs.declared.Fared.the-variants.{Idle, Through}
 use Rattle.bench.specs.declared.Called.{Called}
@@ -43,7 +43,7 @@ pub record Shows (s : ℕ) (x : List ℕ) (exit : List Station) (lentExit : List
   pub told : toldNumber (a .told) ≡ 0
   pub through : getD (a .verdicts) s (verdictOf Idle) ≡ verdictOf Through
   -- whole and readable: x is what demand 2's reader finds in the lent words afterwards
-  pub readable : (bytesLent : ℕ) → mostBytes ≤ bytesLent → reading lentExit 0 bytesLent ≡ good (withCheck x) [] Without 0 (2 + length (bitsSent x))
+  pub readable : (bytesLent : ℕ) → mostBytes ≤ bytesLent → reading lentExit 0 bytesLent ≡ good (frameSent x Without [] 0 (2 + length (bitsSent x)))
   -- the line time is the sum of the words written, less the closing 300
   pub time : a .«line_time» .0 + 300 ≡ sumOf (take (a .words) lentExit)
   -- "No round takes more than 14,438 µs of line time"

@@ -3,12 +3,20 @@
 use symbol::Clock;
 use units::Micros;
 
+// The most stations that a row may have.
+pub const MOST_STATIONS: usize = 32;
+
+// The most bytes that a station stores, and the most that it sends, which are those and their check byte.
+pub const MOST_STORED: usize = 11;
+
+pub const MOST_SENT: usize = MOST_STORED + 1;
+
 // A station of the row: its clock and its stored message, the first `len` of its bytes. A station of length 0 is empty;
 // what its bytes then hold counts for nothing. Laid out as C has it, since other languages lend a row of them.
 #[repr(C)]
 pub struct Station {
     pub clock: Clock,
-    pub bytes: [u8; 11],
+    pub bytes: [u8; MOST_STORED],
     pub len: u8,
 }
 
@@ -50,7 +58,7 @@ pub enum RoundTold {
 // time. Where the round was turned away nothing was written, all places are idle, and both numbers are 0.
 pub struct RoundAnswer {
     pub told: RoundTold,
-    pub verdicts: [Verdict; 32],
+    pub verdicts: [Verdict; MOST_STATIONS],
     pub words: usize,
     pub line_time: Micros,
 }

@@ -22,7 +22,7 @@ use Rattle.bench.specs.Promises.{calledNumber}
 use Rattle.bench.specs.Taken.{within}
 use Rattle.bench_row.specs.declared.Bench.{Bench}
 use Rattle.bench_calls.specs.declared.Changed.{Changed}
-use Rattle.bench_row.specs.Scan.{getD-any}
+use Rattle.loops.specs.Scan.{getD-any}
 use Rattle.bench_calls.specs.Changes.{stationOf, ChangedBy, doneWith, rowNumber, loadAtNumber, loadedBench, withdrawAtNumber, withdrawnBench, clockAtNumber, clockedBench}
 
 -- The first rules answered: done says whether they turned nothing away.

@@ -11,14 +11,11 @@ ghost use Rattle.bench.specs.Calls.{clocked};
 ghost use Rattle.bench.specs.Promises.{calledNumber};
 ghost use Rattle.bench_calls.specs.Changes.{withOf, callNumber, rowNumber, doneWith, ChangedBy, loadAtNumber, loadedBench, withdrawAtNumber, withdrawnBench, clockAtNumber, clockedBench};
 use bench::Called;
+use bench::MOST_STATIONS;
+use bench::MOST_STORED;
 use bench::Station;
 use bench_row::Bench;
 use symbol::Clock;
-
-// The places of a row by value, and the most bytes that a station stores.
-const MOST_STATIONS: usize = 32;
-
-const MOST_STORED: usize = 11;
 
 // What a call answers, and the bench after it.
 pub struct Changed {
@@ -44,7 +41,7 @@ fn row_call(bench: Bench, place: usize) -> Called
     Called::Done
 }
 
-// Whether a call goes on behind the rules that have been judged so far.
+// Whether a call goes on after the rules that have been judged so far.
 fn is_done(called: Called) -> bool
     ensures { λ r. ⌜ r ≡ eqb (calledNumber called) 0 ⌝ }
 {

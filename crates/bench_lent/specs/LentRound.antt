@@ -19,7 +19,7 @@ use Rattle.bench.specs.Promises.{RoundSaid, RoundPromise, said, played, turnedA
 use Rattle.bench.specs.Taken.{round-taken}
 use Rattle.bench.specs.RowLaws.{winnerOf, faresAgainst, row-fares}
 use Rattle.bench_row.specs.declared.Bench.{Bench}
-use Rattle.bench_round.specs.declared.playing.Played.{Played}
+use Rattle.bench_round.specs.declared.Played.{Played}
 use Rattle.bench_row.specs.Benches.{benchOf}
 use Rattle.bench_round.specs.Rounds.{roundNumber, numberOn, PlayedBy}
 use Rattle.bench_lent.specs.Padding.{map-append, map-replicate, round-pad, after-pad}

@@ -11,7 +11,7 @@ use Rattle.laws.specs.Tests.{upTo}
 use Rattle.bench.specs.declared.Station.{Station}
 use Rattle.bench.specs.Stations.{mostStations, blank}
 use Rattle.bench_row.specs.declared.Bench.{Bench}
-use Rattle.bench_row.specs.Scan.{from, from-same, from-length, from-list, getD-any}
+use Rattle.loops.specs.Scan.{from, from-same, from-length, from-list, getD-any}
 use Rattle.bench_row.specs.Benches.{benchOf}
 
 -- ## Gathering

@@ -1,12 +1,4 @@
-pub mod Lanes
-pub mod LoopLaws
-pub mod Seats
-pub mod SeatLaws
-pub mod Sending
-pub mod Entries
-pub mod EntryLaws
 pub mod Rounds
-pub mod Starting
 pub mod Playing
 pub mod RoundOutcomes
 pub mod PlayedSettled

@@ -16,7 +16,7 @@ use Rattle.bench.specs.Calls.{round, rulesOn}
 use Rattle.bench.specs.Promises.{toldNumber, RoundSaid, said, played, turnedAway}
 use Rattle.bench.specs.RoundSettled.{said-once}
 use Rattle.bench_row.specs.declared.Bench.{Bench}
-use Rattle.bench_round.specs.declared.playing.Played.{Played}
+use Rattle.bench_round.specs.declared.Played.{Played}
 use Rattle.bench_round.specs.Rounds.{roundNumber, numberOn, PlayedBy}
 
 -- ## One answer, one bench, one state of the words

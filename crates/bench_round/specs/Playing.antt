@@ -1,127 +1,122 @@
 -- A round that passed its tests: what its words, its line time and its verdicts come to, and the stations after it.
 use Prim.Native.Nat.{ℕ, zero, suc, _+_, _-_, _≤_, _<_}
 use mathlib.Core.Path.{_≡_, refl, sym, ap, ap₂, subst, _∙_}
-use mathlib.Core.Bool.{true, false}
+use mathlib.Core.Bool.{true}
 use mathlib.Core.List.{List, [], _∷_, _++_, map, append-assoc, append-nil}
 use native.Mathlib.Omega.{arith}
-use lib.ListN.{length, take, drop, getD, set, replicate, length-append, length-set, List·getD-map}
+use lib.ListN.{length, take, drop, getD, set, replicate, length-append, length-set, length-map, List·getD-map}
 use lib.Seq.{sets, length-sets, length-take-le, getD-take, take-at}
 use Rattle.laws.specs.Lent.{sets-then, sets-first}
+use Rattle.symbol.specs.Sending.{endWidth}
 use Rattle.frame.specs.Writing.{mostWords}
 use Rattle.bench.specs.declared.Station.{Station}
 use Rattle.bench.specs.declared.Fared.{Fared}
 use Rattle.bench.specs.declared.Fared.the-variants.{Idle}
 use Rattle.bench.specs.declared.Verdict.{Verdict}
 use Rattle.bench.specs.Stations.{mostStations, blank}
-use Rattle.bench.specs.Round.{longest, Course, mostBits, play, faredAt}
-use Rattle.bench.specs.Contest.{entryOf, seatOf, sofsAsked, sumOf, roundOf, contestOf, verdictOf, verdictsOf, afterFare, afterFares}
+use Rattle.bench.specs.Round.{longest, Course, mostBits}
+use Rattle.bench.specs.Contest.{entryOf, sofsAsked, sumOf, roundOf, contestOf, verdictOf, verdictsOf, afterFare, afterFares}
 use Rattle.bench.specs.Calls.{allSound, written}
-use Rattle.bench.specs.RowLaws.{row-comes}
+use Rattle.bench.specs.RowLaws.{winnerOf, faresAgainst, row-fares, row-comes}
 use Rattle.bench.specs.Promises.{RoundSaid, played}
-use Rattle.bench_row.specs.Scan.{from, from-same, from-length, filled, fill-more, fill-all, fold-start, fold-more, fold-all, getD-any}
-use Rattle.bench_round.specs.Lanes.{Lanes, lanesOf}
-use Rattle.bench_round.specs.Seats.{LanesOk, faresAt}
-use Rattle.bench_round.specs.Entries.{countOf, frameOf, widthOf, lanesIn, verdictsAt}
-use Rattle.bench_round.specs.Starting.{start-ok, start-seats}
-use Rattle.bench_round.specs.Sending.{courseOf, Sent}
+use Rattle.loops.specs.Scan.{from, from-same, filled, fill-more, fill-all, fold-start, fold-more, fold-all, getD-any}
+use Rattle.bench_line.specs.declared.Contended.{Contended}
+use Rattle.bench_line.specs.Contending.{courseOn, ContendedIn, ContendedBy}
+use Rattle.bench_line.specs.ContendLaws.{sound-sent, course-few}
 use Rattle.bench_round.specs.Rounds.{afterVerdict, afterVerdicts}
 
 -- ## The words and the answer
 
-module _ (at : List Station) (n : length at ≡ mostStations) (h : allSound at ≡ true) (sof : ℕ) (q : sof ≡ longest (sofsAsked (map entryOf at)))
-    (old : List ℕ) (room : mostWords ≤ length old) (lost mid : List ℕ) (bits : ℕ)
-    (sent : Sent (lanesIn at) (replicate mostStations 0) lost (set (set old 0 300) 1 sof) mid bits) where
-  course : Course
-  course = play mostBits false 1 (map seatOf (map entryOf at))
+-- the width of the opening and of the closing end
+abbrev end : ℕ
+end = endWidth .0
 
-  same : courseOf (lanesIn at) (replicate mostStations 0) ≡ course
+-- Each of the 32 places fares somehow.
+pub fares-length : (at : List Station) → length at ≡ mostStations → allSound at ≡ true → length (roundOf at .fares) ≡ mostStations
+fares-length at n h = ap length (row-fares at h) ∙ length-map at (faresAgainst (winnerOf at)) ∙ n
+
+module _ (at : List Station) (n : length at ≡ mostStations) (h : allSound at ≡ true) (sof : ℕ) (q : sof ≡ longest (sofsAsked (map entryOf at)))
+    (old : List ℕ) (space : mostWords ≤ length old) (mid : List ℕ) (r : Contended)
+    (did : ContendedBy at (set (set old 0 end) 1 sof) mid r) where
+  course : Course
+  course = courseOn at
+
+  -- what contending comes to on sound stations and words enough
+  sent : ContendedIn course (set (set old 0 end) 1 sof) mid r
   unfolding course
-  same = ap (play mostBits false 1) (start-seats at n h)
+  sent =
+      let k : mostWords ≤ length (set (set old 0 end) 1 sof) = omega (arith, space, length-set (set old 0 end) 1 sof, length-set old 0 end) in
+      subst (λ (c : Course). ContendedIn c (set (set old 0 end) 1 sof) mid r) (sound-sent at (set (set old 0 end) 1 sof) h k) did
+
+  -- There are at most 96 bits.
+  pub few-bits : r .bits ≤ mostBits
+  unfolding course
+  few-bits = omega (arith, sent .counts, course-few at)
 
   -- the words in front of the closing end
   front : List ℕ
-  front = 300 ∷ sof ∷ course .widths
+  front = end ∷ sof ∷ course .widths
 
-  front-length : length front ≡ 2 + bits
+  front-length : length front ≡ 2 + r .bits
   unfolding front course
-  front-length = omega (arith, sent .counts-them, ap (λ (c : Course). length (c .widths)) same)
+  front-length = omega (arith, sent .counts)
 
-  all-words : roundOf at .words ≡ front ++ (300 ∷ [])
-  unfolding roundOf contestOf front course
+  all-words : roundOf at .words ≡ front ++ (end ∷ [])
+  unfolding roundOf contestOf front course courseOn
   all-words = rw q
 
-  whole : length (front ++ (300 ∷ [])) ≡ 3 + bits
-  whole = omega (arith, length-append front (300 ∷ []), front-length)
+  whole : length (front ++ (end ∷ [])) ≡ 3 + r .bits
+  whole = omega (arith, length-append front (end ∷ []), front-length)
 
   -- the closing end is the last word written
-  closed : set mid (2 + bits) 300 ≡ (front ++ (300 ∷ [])) ++ drop (3 + bits) old
+  closed : set mid (2 + r .bits) end ≡ (front ++ (end ∷ [])) ++ drop (3 + r .bits) old
   unfolding front
   closed =
-      ap (λ (r : List ℕ). set r (2 + bits) 300) (sent .writes-them ∙ ap (λ (c : Course). sets (set (set old 0 300) 1 sof) 2 (c .widths)) same)
-      ∙ ap (λ (r : List ℕ). set r (2 + bits) 300) (sets-then old 0 (300 ∷ sof ∷ []) (course .widths))
-      ∙ ap (λ (k : ℕ). set (sets old 0 front) k 300) (let z : 2 + bits ≡ 0 + length front = omega (arith, front-length) in z)
-      ∙ sets-then old 0 front (300 ∷ [])
-      ∙ sets-first old (front ++ (300 ∷ [])) (omega (arith, whole, sent .few))
-      ∙ ap (λ (k : ℕ). (front ++ (300 ∷ [])) ++ drop k old) whole
+      ap (λ (ws : List ℕ). set ws (2 + r .bits) end) (sent .leaves)
+      ∙ ap (λ (ws : List ℕ). set ws (2 + r .bits) end) (sets-then old 0 (end ∷ sof ∷ []) (course .widths))
+      ∙ ap (λ (k : ℕ). set (sets old 0 front) k end) (let z : 2 + r .bits ≡ 0 + length front = omega (arith, front-length) in z)
+      ∙ sets-then old 0 front (end ∷ [])
+      ∙ sets-first old (front ++ (end ∷ [])) (omega (arith, whole, few-bits))
+      ∙ ap (λ (k : ℕ). (front ++ (end ∷ [])) ++ drop k old) whole
 
   -- No word is added or lost.
   pub mid-length : length mid ≡ length old
   mid-length =
-      ap length (sent .writes-them) ∙ length-sets (set (set old 0 300) 1 sof) 2 (courseOf (lanesIn at) (replicate mostStations 0) .widths)
-      ∙ length-set (set old 0 300) 1 sof ∙ length-set old 0 300
+      ap length (sent .leaves) ∙ length-sets (set (set old 0 end) 1 sof) 2 (course .widths)
+      ∙ length-set (set old 0 end) 1 sof ∙ length-set old 0 end
 
-  -- With the closing end behind them they are the round's words ..
-  pub words-are : set mid (2 + bits) 300 ≡ written (roundOf at .words) old
-  words-are = closed ∙ ap (λ (k : ℕ). (front ++ (300 ∷ [])) ++ drop k old) (sym whole) ∙ ap (λ (ws : List ℕ). ws ++ drop (length ws) old) (sym all-words)
+  -- With the closing end after them they are the round's words ..
+  pub words-are : set mid (2 + r .bits) end ≡ written (roundOf at .words) old
+  words-are = closed ∙ ap (λ (k : ℕ). (front ++ (end ∷ [])) ++ drop k old) (sym whole) ∙ ap (λ (ws : List ℕ). ws ++ drop (length ws) old) (sym all-words)
 
   -- .. and the sum of all but that end is its line time ..
-  pub time-is : sumOf (take (2 + bits) (set mid (2 + bits) 300)) ≡ roundOf at .lineTime
-  unfolding roundOf contestOf front course
+  pub time-is : sumOf (take (2 + r .bits) (set mid (2 + r .bits) end)) ≡ roundOf at .lineTime
+  unfolding roundOf contestOf front course courseOn
   time-is =
-      ap (λ (r : List ℕ). sumOf (take (2 + bits) r)) (closed ∙ append-assoc front (300 ∷ []) (drop (3 + bits) old))
-      ∙ ap sumOf (take-at front (300 ∷ drop (3 + bits) old) (2 + bits) front-length)
-      ∙ ap (λ (s : ℕ). sumOf (300 ∷ s ∷ course .widths)) q
+      ap (λ (ws : List ℕ). sumOf (take (2 + r .bits) ws)) (closed ∙ append-assoc front (end ∷ []) (drop (3 + r .bits) old))
+      ∙ ap sumOf (take-at front (end ∷ drop (3 + r .bits) old) (2 + r .bits) front-length)
+      ∙ ap (λ (s : ℕ). sumOf (end ∷ s ∷ course .widths)) q
 
   -- .. which a u32 holds.
-  pub time-bound : sumOf (take (2 + bits) (set mid (2 + bits) 300)) ≤ 14438
+  pub time-bound : sumOf (take (2 + r .bits) (set mid (2 + r .bits) end)) ≤ 14438
   time-bound = omega (arith, time-is, row-comes at h .bound)
 
-  fares-are : faresAt (map countOf at) lost ≡ roundOf at .fares
-  unfolding roundOf contestOf course
-  fares-are = sent .fares-so ∙ ap (λ (c : Course). map faredAt (c .seats)) same
+  fares-are : r .verdicts ≡ map verdictOf (roundOf at .fares)
+  unfolding roundOf contestOf course courseOn
+  fares-are = sent .fares
 
-  -- Each of the 32 places fares somehow.
-  pub fares-length : length (roundOf at .fares) ≡ mostStations
-  unfolding faresAt
-  fares-length = ap length (sym fares-are) ∙ from-length _ 0 mostStations
-
-  verdicts-are : verdictsAt (map countOf at) lost ≡ verdictsOf (roundOf at .fares)
+  verdicts-are : r .verdicts ≡ verdictsOf (roundOf at .fares)
   verdicts-are =
-      let z : mostStations - length (roundOf at .fares) ≡ 0 = omega (arith, fares-length) in
-      ap (map verdictOf) fares-are ∙ sym (append-nil (map verdictOf (roundOf at .fares)))
+      let z : mostStations - length (roundOf at .fares) ≡ 0 = omega (arith, fares-length at n h) in
+      fares-are ∙ sym (append-nil (map verdictOf (roundOf at .fares)))
       ∙ ap (λ (k : ℕ). map verdictOf (roundOf at .fares) ++ replicate k (verdictOf Idle)) (sym z)
 
   -- The answer is the definition's.
-  pub answer-is : (verdicts : List Verdict) → verdicts ≡ verdictsAt (map countOf at) lost → (time : ℕ) → time ≡ sumOf (take (2 + bits) (set mid (2 + bits) 300))
-      → (let r : RoundSaid = record { number = 0; verdicts = verdicts; words = 2 + bits + 1; lineTime = time } in r) ≡ played (roundOf at)
-  answer-is verdicts e time f =
-      let k : 2 + bits + 1 ≡ length (roundOf at .words) = omega (arith, ap length all-words, whole) in
-      rw (e ∙ verdicts-are, k, f ∙ time-is)
-
--- ## The arrays that stand for the lanes
-
-module _ (at : List Station) (counts : List ℕ) (frames : List (List ℕ)) (shorts longs : List ℕ)
-    (a : counts ≡ map countOf at) (b : frames ≡ map frameOf at) (c : shorts ≡ map (widthOf false) at) (d : longs ≡ map (widthOf true) at) where
-  arrays : lanesOf counts frames shorts longs ≡ lanesIn at
-  arrays = cc
-
-  -- They are the lanes of sound stations ..
-  pub ready : length at ≡ mostStations → allSound at ≡ true → LanesOk (lanesOf counts frames shorts longs)
-  ready n h = subst LanesOk (sym arrays) (start-ok at n h)
-
-  -- .. and what is sent over the arrays is sent over those lanes.
-  pub readied : (z lost old mid : List ℕ) (bits : ℕ) → Sent (lanesOf counts frames shorts longs) z lost old mid bits → Sent (lanesIn at) z lost old mid bits
-  readied z lost old mid bits s = subst (λ (l : Lanes). Sent l z lost old mid bits) arrays s
+  pub answer-is : (time : ℕ) → time ≡ sumOf (take (2 + r .bits) (set mid (2 + r .bits) end))
+      → (let x : RoundSaid = record { number = 0; verdicts = r .verdicts; words = 2 + r .bits + 1; lineTime = time } in x) ≡ played (roundOf at)
+  answer-is time f =
+      let k : 2 + r .bits + 1 ≡ length (roundOf at .words) = omega (arith, ap length all-words, whole) in
+      rw (verdicts-are, k, f ∙ time-is)
 
 -- ## The sum of words
 
@@ -191,7 +186,7 @@ pub record Settling (at : List Station) (verdicts : List Verdict) (first now : L
   pub inside : i ≤ mostStations
   pub places : length at ≡ mostStations
   pub answers : length verdicts ≡ mostStations
-  pub room : length first ≡ mostStations
+  pub space : length first ≡ mostStations
   pub so-far : now ≡ filled (afterVerdict at verdicts) first i
 
 module _ {at : List Station} {verdicts : List Verdict} {first now : List Station} {i : ℕ} (so : Settling at verdicts first now i) where
@@ -202,14 +197,14 @@ module _ {at : List Station} {verdicts : List Verdict} {first now : List Station
         inside = omega arith;
         places = so .places;
         answers = so .answers;
-        room = so .room;
+        space = so .space;
         so-far =
             ap (λ (r : List Station). set r i x) (so .so-far)
-            ∙ fill-more (afterVerdict at verdicts) first i x x (omega (arith, so .room))
+            ∙ fill-more (afterVerdict at verdicts) first i x x (omega (arith, so .space))
             (p ∙ ap₂ (λ (v : Verdict) (s : Station). afterFare (v .fared) s) (getD-any verdicts i e (verdictOf Idle) (omega (arith, so .answers))) (getD-any at i d blank (omega (arith, so .places))));
       }
 
   -- all of them
   pub settle-all : mostStations ≤ i → now ≡ afterVerdicts at verdicts
   unfolding afterVerdicts
-  settle-all h = so .so-far ∙ fill-all (afterVerdict at verdicts) first i mostStations (so .room) h (so .inside)
+  settle-all h = so .so-far ∙ fill-all (afterVerdict at verdicts) first i mostStations (so .space) h (so .inside)

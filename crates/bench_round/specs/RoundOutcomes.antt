@@ -4,7 +4,7 @@ use mathlib.Core.Path.{_≡_, refl, sym, ap, _∙_}
 use mathlib.Core.Bool.{Bool, true, false}
 use mathlib.Core.List.{List, map}
 use lib.Dec.{eqb}
-use lib.ListN.{length, length-map}
+use lib.ListN.{length}
 use borrow.Author.Tests.{eqb-true}
 use Rattle.laws.specs.Tests.{not-below}
 use Rattle.laws.specs.Meant.{not-unset}
@@ -18,12 +18,11 @@ use Rattle.bench.specs.Round.{longest}
 use Rattle.bench.specs.Contest.{entryOf, sofsAsked, roundOf}
 use Rattle.bench.specs.Calls.{round, allSound, rulesOn, written}
 use Rattle.bench.specs.Promises.{toldNumber, RoundSaid, said, played, turnedAway}
-use Rattle.bench.specs.RowLaws.{winnerOf, faresAgainst, row-fares}
 use Rattle.bench_row.specs.declared.Bench.{Bench}
 use Rattle.bench_row.specs.declared.survey.Survey.{Survey}
 use Rattle.bench_row.specs.Surveys.{surveyOf}
 use Rattle.bench_round.specs.Rounds.{roundNumber, numberOn, idleAll, afterVerdicts, PlayedBy}
-use Rattle.bench_round.specs.Playing.{after-is}
+use Rattle.bench_round.specs.Playing.{fares-length, after-is}
 
 -- The rules answered: yes says whether they turned nothing away.
 module _ (b : Bench) (lent : List ℕ) (v : Survey) (e : v ≡ surveyOf (b .at)) (told : RoundTold) (p : toldNumber told ≡ roundNumber (b .count) v (length lent))
@@ -50,8 +49,7 @@ module _ (b : Bench) (lent : List ℕ) (v : Survey) (e : v ≡ surveyOf (b .at))
       → (after : List Station) → after ≡ afterVerdicts (b .at) (answer .verdicts) → (lent′ : List ℕ) → lent′ ≡ written (roundOf (b .at) .words) lent
       → PlayedBy b lent lent′ (record { bench = record { at = after; count = b .count }; answer = answer })
   plays t n answer s after f lent′ g =
-      let fares : length (roundOf (b .at) .fares) ≡ mostStations = ap length (row-fares (b .at) (passed t .0)) ∙ length-map (b .at) (faresAgainst (winnerOf (b .at))) ∙ n in
-      let so = f ∙ ap (afterVerdicts (b .at)) (ap (λ (x : RoundSaid). x .verdicts) s) ∙ after-is (b .at) (roundOf (b .at) .fares) n fares in
+      let so = f ∙ ap (afterVerdicts (b .at)) (ap (λ (x : RoundSaid). x .verdicts) s) ∙ after-is (b .at) (roundOf (b .at) .fares) n (fares-length (b .at) n (passed t .0)) in
       record {
         says = rw (first ∙ t) s;
         leaves = rw (first ∙ t) (ap (λ (l : List Station). record { at = l; count = b .count }) so);

@@ -17,8 +17,8 @@ use Rattle.bench.specs.Calls.{roundRules, written}
 use Rattle.bench.specs.Promises.{said, played, turnedAway}
 use Rattle.bench_row.specs.declared.Bench.{Bench}
 use Rattle.bench_row.specs.declared.survey.Survey.{Survey}
-use Rattle.bench_round.specs.declared.playing.Played.{Played}
-use Rattle.bench_row.specs.Scan.{from}
+use Rattle.bench_round.specs.declared.Played.{Played}
+use Rattle.loops.specs.Scan.{from}
 use Rattle.bench_row.specs.Surveys.{surveyOf}
 
 -- the number of the first rule that turns a round away

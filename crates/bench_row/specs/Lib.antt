@@ -1,4 +1,4 @@
-pub mod Scan
 pub mod Surveys
 pub mod SurveyLaws
 pub mod Benches
+pub mod Whole

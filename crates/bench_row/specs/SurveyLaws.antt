@@ -11,7 +11,7 @@ use Rattle.bench.specs.Round.{longest}
 use Rattle.bench.specs.Contest.{absent, holder, entryOf, sofAsks, sofsAsked}
 use Rattle.bench.specs.Calls.{allSound, allEmpty}
 use Rattle.bench_row.specs.declared.survey.Survey.{Survey}
-use Rattle.bench_row.specs.Scan.{fold-start, fold-more, fold-all}
+use Rattle.loops.specs.Scan.{fold-start, fold-more, fold-all}
 use Rattle.bench_row.specs.Surveys.{surveyBy, surveyOf}
 
 -- One station more.

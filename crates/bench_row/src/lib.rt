@@ -4,6 +4,7 @@ ghost use Prim.Native.Nat.{min};
 ghost use lib.ListN.{getD, replicate};
 ghost use Rattle.bench.specs.Stations.{mostStations, blank};
 ghost use Rattle.bench.specs.Contest.{emptied};
+use bench::MOST_STATIONS;
 use bench::Station;
 
 mod survey;
@@ -13,22 +14,19 @@ pub use survey::bad_size;
 pub use survey::greater;
 pub use survey::survey_all;
 
-// The most stations that a row may have: a row by value has as many places.
-const MOST_STATIONS: usize = 32;
-
 // A row of up to 32 stations, with blank ones past its end, and how many the row has. Where that is more than 32 the
 // rest of the row is not here: no call is taken on such a row.
 pub struct Bench {
-    pub at: [Station; 32],
+    pub at: [Station; MOST_STATIONS],
     pub count: usize,
 }
 
 // 32 blank stations.
-pub fn blanks() -> [Station; 32]
+pub fn blanks() -> [Station; MOST_STATIONS]
     ensures { λ r. ⌜ r ≡ replicate mostStations blank ⌝ }
 {
     let station = survey::blank();
-    let at: [Station; 32] = [station; 32];
+    let at: [Station; MOST_STATIONS] = [station; MOST_STATIONS];
     at
 }
 
@@ -44,7 +42,7 @@ pub fn kept(count: usize) -> usize
 }
 
 // The bench of these stations, for a row of so many.
-pub fn bench_of(at: [Station; 32], count: usize) -> Bench
+pub fn bench_of(at: [Station; MOST_STATIONS], count: usize) -> Bench
     ensures { λ r. ⌜ r ≡ record { at = at; count = count } ⌝ }
 {
     Bench { at, count }

@@ -7,12 +7,12 @@ ghost use lib.Dec.{eqb, ltb};
 ghost use Rattle.bench.specs.Stations as Stations;
 ghost use Rattle.bench.specs.Stations.{mostStations, sound};
 ghost use Rattle.bench_row.specs.Surveys.{sofOf, surveyBy, surveyOf};
+use bench::MOST_STATIONS;
+use bench::MOST_STORED;
 use bench::Station;
 
-// The most stations that a row may have, and the most bytes that a station stores.
-const MOST_STATIONS: usize = 32;
-
-const MOST_STORED: u8 = 11;
+// The most bytes that a station stores, as a station has it.
+const MOST_LEN: u8 = MOST_STORED as u8;
 
 // Whether a row has no station, or more than 32.
 pub fn bad_size(count: usize) -> bool
@@ -29,7 +29,7 @@ pub fn blank() -> Station
     ensures { λ r. ⌜ r ≡ Stations.blank ⌝ }
 {
     let clock = symbol::nominal();
-    let bytes: [u8; 11] = [0; 11];
+    let bytes: [u8; MOST_STORED] = [0; MOST_STORED];
     Station {
         clock,
         bytes,
@@ -42,7 +42,7 @@ fn is_sound(station: Station) -> bool
     ensures { λ r. ⌜ r ≡ sound station ⌝ }
 {
     let clock = station.clock;
-    if station.len <= MOST_STORED {
+    if station.len <= MOST_LEN {
         return symbol::good_clock(clock);
     }
     false
@@ -89,7 +89,7 @@ pub fn greater(a: u32, b: u32) -> u32
 }
 
 // What is asked of the whole row.
-pub fn survey_all(row: [Station; 32]) -> Survey
+pub fn survey_all(row: [Station; MOST_STATIONS]) -> Survey
     ensures { λ r. ⌜ r ≡ surveyOf row ⌝ }
 {
     let mut all = Survey {

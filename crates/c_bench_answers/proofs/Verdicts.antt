@@ -8,7 +8,7 @@ use Rattle.bench.specs.declared.Verdict as contest
 use Rattle.bench.specs.declared.Fared.the-variants.{Idle}
 use Rattle.bench.specs.Stations.{mostStations}
 use Rattle.bench.specs.Contest.{verdictOf}
-use Rattle.bench_row.specs.Scan as scan
+use Rattle.loops.specs.Scan as scan
 use Rattle.c_bench_answers.specs.declared.Verdict.{Verdict}
 use Rattle.c_bench_answers.specs.Answers.{verdictAs}
 

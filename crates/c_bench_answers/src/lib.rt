@@ -5,6 +5,7 @@ ghost use Rattle.bench.specs.Promises.{calledNumber, toldNumber, said};
 ghost use Rattle.c_bench_answers.specs.Answers.{calledAs, verdictAs, roundAs};
 use bench::Called;
 use bench::Fared;
+use bench::MOST_STATIONS;
 use bench::RoundTold;
 use frame_numbers::BAD_CLOCK;
 use frame_numbers::BAD_MESSAGE;
@@ -51,9 +52,6 @@ const IDLE: u32 = 0;
 const THROUGH: u32 = 1;
 
 const LOST: u32 = 2;
-
-// The places that a round tells of, however many stations the row has.
-const MOST_STATIONS: usize = 32;
 
 // Document 01's number for what a call at a place answers.
 fn called_number(called: Called) -> u32

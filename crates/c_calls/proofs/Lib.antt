@@ -1,2 +1,2 @@
-mod Kinds
+mod ByKind
 mod Numbered

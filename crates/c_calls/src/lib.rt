@@ -67,7 +67,7 @@ pub extern "C" fn j1850_intervals(gate: Gate, samples: &[f32], words: &mut [u32]
     ensures { λ r. ⌜ r ≡ tracedAs (outcome gate (now (samples .entry)) (now (words .entry))) ⌝ }
     ensures { λ _. ⌜ now (words .exit) ≡ tracedWords (outcome gate (now (samples .entry)) (now (words .entry))) (intervalsOf gate (now (samples .entry))) (now (words .entry)) ⌝ }
 {
-    c_frame_answers::traced(volts::intervals(gate, samples, words))
+    c_frame_answers::traced(volts_trace::intervals(gate, samples, words))
 }
 
 // Writes the frame of a message, at a clock, into lent words. A kind that is none of the three is turned away as a bad

@@ -6,11 +6,10 @@ use native.Mathlib.Omega.{arith}
 use lib.ListN.{length, take, drop, length-append}
 use lib.Seq.{take-at, drop-at}
 use Rattle.units.specs.declared.Place.{Place}
-use Rattle.frame.specs.declared.Response.{Response}
 use Rattle.frame.specs.declared.Reading.{Reading}
 use Rattle.frame.specs.declared.Reading.the-variants.{Frame, Quiet, Unfinished, Faulty}
 use Rattle.frame.specs.Faults.{mostBytes}
-use Rattle.frame.specs.Reading.{Outcome, good, reading}
+use Rattle.frame.specs.Reading.{Good, Outcome, good, reading}
 use Rattle.frame.specs.Answers.{faultNumber, bare, told, tells, lentAfter, ReadPromise}
 use Rattle.frame.specs.ReadSettled.{told-once}
 use Rattle.desk_text.specs.Grammar.{tab}
@@ -37,15 +36,17 @@ place n = record { 0 = n }
 
 module _ (customer vehicle : List ℕ) where
   -- a good frame's bytes stand first
-  frame-prints : (main response rest : List ℕ) (kind : Response) (o k : ℕ)
-      → Prints customer vehicle (Frame (record { main = length main; response = length response }) kind (place o) (place k)) ((main ++ response) ++ rest) (good main response kind o k)
+  frame-prints : (f : Good) (rest : List ℕ)
+      → Prints customer vehicle (Frame (record { main = length (f .main); response = length (f .response) }) (f .kind) (place (f .opening)) (place (f .next))) ((f .main ++ f .response) ++ rest) (good f)
   unfolding lineIn rowOf frameEnd
-  frame-prints main response rest kind o k =
+  frame-prints f rest =
+      let main : List ℕ = f .main in
+      let response : List ℕ = f .response in
       let a : take (length main) ((main ++ response) ++ rest) ≡ main = ap (take (length main)) (append-assoc main response rest) ∙ take-at main (response ++ rest) (length main) refl in
       let b : drop (length main) ((main ++ response) ++ rest) ≡ response ++ rest = ap (drop (length main)) (append-assoc main response rest) ∙ drop-at main (response ++ rest) (length main) refl in
       let c : take (length response) (response ++ rest) ≡ response = take-at response rest (length response) refl in
       record {
-        line = rw (a, b, c) (joined customer vehicle (decimal o) w-frame (hex main) (marked kind response));
+        line = rw (a, b, c) (joined customer vehicle (decimal (f .opening)) w-frame (hex main) (marked (f .kind) response));
         on = refl;
         holds = omega (arith, length-append (main ++ response) rest, length-append main response);
       }
@@ -56,9 +57,9 @@ module _ (customer vehicle : List ℕ) where
       rw (told-once r (Quiet (place p)) e) (record { line = joined customer vehicle (decimal p) w-quiet w-none w-none; on = refl; holds = tt })
   prints ws p x (isOpen {o} a b) r e entry bytes l =
       rw (told-once r (Unfinished (place o)) e) (record { line = joined customer vehicle (decimal o) w-unfinished w-none w-none; on = refl; holds = tt })
-  prints ws p x (isFrame {main} {response} {kind} {o} {k} a b c d f) r e entry bytes l =
-      rw (told-once r (Frame (record { main = length main; response = length response }) kind (place o) (place k)) e, l)
-      (frame-prints main response (drop (length (main ++ response)) entry) kind o k)
+  prints ws p x (isFrame {f} a b c d g) r e entry bytes l =
+      rw (told-once r (Frame (record { main = length (f .main); response = length (f .response) }) (f .kind) (place (f .opening)) (place (f .next))) e, l)
+      (frame-prints f (drop (length (f .main ++ f .response)) entry))
   prints ws p x (isFault {o} {k} {n} f q a b c d) r e entry bytes l =
       rw (told-once r (Faulty f (place k)) (e ∙ ap (λ (m : ℕ). bare m k 0) (sym q)))
       (record { line = joined customer vehicle (decimal k) (w-fault ++ decimal (faultNumber f)) w-none w-none ∙ rw q; on = refl; holds = tt })

@@ -7,6 +7,7 @@ use native.Mathlib.Omega.{arith}
 use lib.ListN.{length, length-append}
 use lib.Seq.{sets}
 use Rattle.laws.specs.Lent.{sets-then}
+use Rattle.frame.specs.Line.{single}
 use Rattle.frame.specs.Faults.{mostBytes}
 use Rattle.frame.specs.Reading.{Outcome, good, quiet, unfinished, faulty, refused}
 use Rattle.frame.specs.Outcomes.{goesOn}
@@ -21,14 +22,14 @@ use Rattle.desk_report.proofs.Laying.{laid-long}
 -- ## One answer and the rest
 
 goes : (x : Outcome) (q : ℕ) → onwards x ≡ At q → (goesOn x ≡ true) × (nextOf x ≡ q)
-goes (good main response kind opening next) q e = (refl, cc)
+goes (good f) q e = (refl, cc)
 goes (quiet next) q e = let z : _≡_ {A = ℕ} 0 1 = cc in absurd (omega arith)
 goes (unfinished opening) q e = let z : _≡_ {A = ℕ} 0 1 = cc in absurd (omega arith)
 goes (faulty number next) q e = (refl, cc)
 goes (refused number) q e = let z : _≡_ {A = ℕ} 0 1 = cc in absurd (omega arith)
 
 ends : (x : Outcome) → onwards x ≡ Nowhere → goesOn x ≡ false
-ends (good main response kind opening next) e = let z : _≡_ {A = ℕ} 0 1 = cc in absurd (omega arith)
+ends (good f) e = let z : _≡_ {A = ℕ} 0 1 = cc in absurd (omega arith)
 ends (quiet next) e = refl
 ends (unfinished opening) e = refl
 ends (faulty number next) e = let z : _≡_ {A = ℕ} 0 1 = cc in absurd (omega arith)
@@ -46,7 +47,7 @@ module _ (customer vehicle ws : List ℕ) where
       → rowsFrom customer vehicle ws p ≡ rowOf customer vehicle (answerAt ws p) ++ rowsFrom customer vehicle ws (nextOf (answerAt ws p))
   unfolding rowsFrom rowsOf
   rows-more p h e =
-      let g = progress ws p mostBytes e in
+      let g = progress mostBytes (single ws) p mostBytes e in
       ap (rowsOf customer vehicle) (reads-once (all p h) (more e (all (nextOf (answerAt ws p)) (omega arith))))
 
   -- ## The loop
@@ -84,7 +85,7 @@ module _ (customer vehicle ws : List ℕ) where
       pub left-next : (q : ℕ) → step .next ≡ At q → Left entry at exit (step .end) q
       left-next q e =
           let g = goes (answerAt ws p) q (sym (s .follows) ∙ e) in
-          let o = progress ws p mostBytes (g .0) in
+          let o = progress mostBytes (single ws) p mostBytes (g .0) in
           let r : rowsFrom customer vehicle ws p ≡ rowOf customer vehicle (answerAt ws p) ++ rowsFrom customer vehicle ws q = rows-more p (left .inside) (g .0) ∙ ap (λ (n : ℕ). rowOf customer vehicle (answerAt ws p) ++ rowsFrom customer vehicle ws n) (g .1) in
           let w : length exit ≡ length lent = laid-long (s .row) in
           record {
@@ -104,5 +105,5 @@ module _ (customer vehicle ws : List ℕ) where
       pub left-less : (q : ℕ) → step .next ≡ At q → length ws - q < length ws - p
       left-less q e =
           let g = goes (answerAt ws p) q (sym (s .follows) ∙ e) in
-          let o = progress ws p mostBytes (g .0) in
+          let o = progress mostBytes (single ws) p mostBytes (g .0) in
           omega (arith, g .1)

@@ -20,7 +20,7 @@ answerAt ws p = reading ws p mostBytes
 
 -- .. and where reading goes on after it
 abbrev pub onwards : Outcome → Next
-onwards (good main response kind opening next) = At next
+onwards (good f) = At (f .next)
 onwards (quiet next) = Nowhere
 onwards (unfinished opening) = Nowhere
 onwards (faulty number next) = At next

@@ -11,8 +11,8 @@ use crate::fields::put_field;
 use crate::fields::put_frame;
 use crate::fields::put_place;
 use desk_answer::Next;
+use frame::MOST_BYTES;
 use frame::Reading;
-use frame_numbers::MOST_BYTES;
 use units::Place;
 
 // The kind and the parts of an answer; a frame's bytes stand first in s.

@@ -76,7 +76,7 @@ up-inside k n h = omega arith
 
 -- how long the line of an answer can be, by its kind
 abbrev pub mostRow : Outcome → ℕ
-mostRow (good main response kind opening next) = 74
+mostRow (good f) = 74
 mostRow (faulty number next) = 53
 mostRow (quiet next) = 50
 mostRow (unfinished opening) = 55
@@ -90,8 +90,8 @@ module _ (customer vehicle : List ℕ) (c : length customer ≤ mostLabel) (v : 
       omega (arith, line-six customer vehicle (decimal (atOf x)) (kindOf x) (mainOf x) (responseOf x), five-digits p (omega arith))
   row-size ws p x h i (isOpen {o} a b) =
       omega (arith, line-six customer vehicle (decimal (atOf x)) (kindOf x) (mainOf x) (responseOf x), five-digits o (omega arith))
-  row-size ws p x h i (isFrame {main} {response} {kind} {o} {k} a b d e f) =
-      omega (arith, line-six customer vehicle (decimal (atOf x)) (kindOf x) (mainOf x) (responseOf x), five-digits o (omega arith), hex-length main, marked-size kind response)
+  row-size ws p x h i (isFrame {f} a b d e g) =
+      omega (arith, line-six customer vehicle (decimal (atOf x)) (kindOf x) (mainOf x) (responseOf x), five-digits (f .opening) (omega arith), hex-length (f .main), marked-size (f .kind) (f .response))
   row-size ws p x h i (isFault {o} {k} {n} f e a b d g) =
       omega (arith, line-six customer vehicle (decimal (atOf x)) (kindOf x) (mainOf x) (responseOf x), five-digits k (omega arith), two-digits n (omega (arith, fault-below f)))
 
@@ -114,10 +114,10 @@ module _ (customer vehicle : List ℕ) (c : length customer ≤ mostLabel) (v : 
     uses : (p : ℕ) (x : Outcome) → p ≤ length ws → Answer ws p x → goesOn x ≡ true → Uses p x
     uses p x i isSilence e = never e refl
     uses p x i (isOpen a b) e = never e refl
-    uses p x i (isFrame {o = o} {k = k} a b d f g) e =
-        let r = row-size ws p x h i (isFrame a b d f g) in
-        let u = up-to p o a b in
-        let w = up-inside k (length ws) f in
+    uses p x i (isFrame {f} a b d g m) e =
+        let r = row-size ws p x h i (isFrame a b d g m) in
+        let u = up-to p (f .opening) a b in
+        let w = up-inside (f .next) (length ws) g in
         record { bytes = omega arith; places = omega arith; inside = omega arith }
     uses p x i (isFault {o} {k} f n a b d g) e =
         let r = row-size ws p x h i (isFault f n a b d g) in
@@ -132,12 +132,12 @@ module _ (customer vehicle : List ℕ) (c : length customer ≤ mostLabel) (v : 
 
     fits : {p : ℕ} {xs : List Outcome} → p ≤ length ws → ReadsOn ws mostBytes p xs → Fits p xs
     unfolding rowsOf
-    fits i (last {p} e) =
+    fits i (last {s = p} e) =
         record {
           bytes = omega (arith, last-size p (reading ws p mostBytes) i (answer-is ws p i) e, length-append (rowOf customer vehicle (reading ws p mostBytes)) []);
           lines = omega arith;
         }
-    fits i (more {p} {xs} e r) =
+    fits i (more {s = p} {xs} e r) =
         let u = uses p (reading ws p mostBytes) i (answer-is ws p i) e in
         let k = fits (u .inside) r in
         record {

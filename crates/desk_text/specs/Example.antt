@@ -2,14 +2,14 @@
 use Prim.Native.Nat.{ℕ}
 use mathlib.Core.Path.{_≡_, refl}
 use mathlib.Core.List.{List, [], _∷_, _++_}
-use Rattle.symbol.specs.Classes.{classOf, endOf}
+use Rattle.symbol.specs.Classes.{classOf}
 use Rattle.checkbyte.specs.Register.{shift, eightShifts, stepOf, registerFrom, checkOf}
 use Rattle.frame.specs.Bits.{bytes}
-use Rattle.frame.specs.Line.{symbolAt, endAt, first, opening, bitsFrom}
+use Rattle.frame.specs.Line.{symbolAt, first, opening, bitsFrom}
 use Rattle.frame.specs.Standing.{stands}
 use Rattle.frame.specs.Faults.{checksOut, fault}
-use Rattle.frame.specs.Reading.{decides, reading}
-use Rattle.frame.specs.ReadingOn.{answersIn}
+use Rattle.frame.specs.Reading.{decides, readOn}
+use Rattle.frame.specs.ReadingOn.{answersBy, answersIn}
 use Rattle.frame.specs.WorkedReading.{ffff}
 use Rattle.label.specs.Labels.{every, labelByte, isLabel}
 use Rattle.desk_text.specs.Grammar.{pieces, same, digit, spells, isWidth}
@@ -43,5 +43,5 @@ exampleText =
 
 -- The desk's text for the example's input is the example's output.
 pub example-worked : deskOf exampleInput ≡ exampleText
-unfolding deskOf report rowsOf rowOf lines ownLine ivLine ivAt badFrom widthsFrom pieces every same labelByte isLabel digit spells isWidth decimalIn hexDigit hex answersIn reading opening decides stands fault checksOut bytes first symbolAt endAt bitsFrom classOf endOf checkOf registerFrom stepOf eightShifts shift
+unfolding deskOf report rowsOf rowOf lines ownLine ivLine ivAt badFrom widthsFrom pieces every same labelByte isLabel digit spells isWidth decimalIn hexDigit hex answersIn answersBy readOn opening decides stands fault checksOut bytes first symbolAt bitsFrom classOf checkOf registerFrom stepOf eightShifts shift
 example-worked = refl

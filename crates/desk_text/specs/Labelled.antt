@@ -154,7 +154,7 @@ label-plain l h = bytes-plain l (both (among 1 mostLabel (length l)) (every labe
 
 kind-plain : (x : Outcome) → Plain-field (kindOf x)
 unfolding every parts-not
-kind-plain (good main response kind opening next) = refl
+kind-plain (good f) = refl
 kind-plain (quiet next) = refl
 kind-plain (unfinished opening) = refl
 kind-plain (faulty number next) = decimal-plain 19 number
@@ -162,7 +162,7 @@ kind-plain (refused number) = refl
 
 main-plain : (x : Outcome) → Plain-field (mainOf x)
 unfolding every parts-not
-main-plain (good main response kind opening next) = hex-plain main
+main-plain (good f) = hex-plain (f .main)
 main-plain (quiet next) = refl
 main-plain (unfinished opening) = refl
 main-plain (faulty number next) = refl
@@ -176,7 +176,7 @@ marked-plain Checked bs = hex-plain bs
 
 response-plain : (x : Outcome) → Plain-field (responseOf x)
 unfolding every parts-not
-response-plain (good main response kind opening next) = marked-plain kind response
+response-plain (good f) = marked-plain (f .kind) (f .response)
 response-plain (quiet next) = refl
 response-plain (unfinished opening) = refl
 response-plain (faulty number next) = refl

@@ -92,7 +92,7 @@ refusal n = lineOf (w-refused ∷ decimal n ∷ [])
 
 -- "`at` is the opening for 0 and 2, the next position otherwise"
 abbrev pub atOf : Outcome → ℕ
-atOf (good main response kind opening next) = opening
+atOf (good f) = f .opening
 atOf (quiet next) = next
 atOf (unfinished opening) = opening
 atOf (faulty number next) = next
@@ -100,7 +100,7 @@ atOf (refused number) = 0
 
 -- "Kinds are `frame`, `quiet`, `unfinished`, `fault-N`."
 abbrev pub kindOf : Outcome → List ℕ
-kindOf (good main response kind opening next) = w-frame
+kindOf (good f) = w-frame
 kindOf (quiet next) = w-quiet
 kindOf (unfinished opening) = w-unfinished
 kindOf (faulty number next) = w-fault ++ decimal number
@@ -108,7 +108,7 @@ kindOf (refused number) = w-none
 
 -- "A part is upper case hex, or `-` where there is none and for every kind but `frame`"
 abbrev pub mainOf : Outcome → List ℕ
-mainOf (good main response kind opening next) = hex main
+mainOf (good f) = hex (f .main)
 mainOf (quiet next) = w-none
 mainOf (unfinished opening) = w-none
 mainOf (faulty number next) = w-none
@@ -122,7 +122,7 @@ marked Checked response = w-checked ++ hex response
 
 -- the last field of a line
 abbrev pub responseOf : Outcome → List ℕ
-responseOf (good main response kind opening next) = marked kind response
+responseOf (good f) = marked (f .kind) (f .response)
 responseOf (quiet next) = w-none
 responseOf (unfinished opening) = w-none
 responseOf (faulty number next) = w-none

@@ -1,18 +1,16 @@
 -- Written again: the parts of a good frame, without their checks, written at the nominal clock, are the recording's own
 -- intervals from the opening to the closing end, each at its symbol's nominal width.
 use Prim.Native.Nat.{ℕ, zero, suc, _+_, _-_, _≤_, _<_}
-use mathlib.Core.Path.{_≡_, refl, sym, ap, _∙_}
-use mathlib.Core.Bool.{Bool, true, false, not, _||_}
+use mathlib.Core.Path.{_≡_, refl, sym, ap, subst, _∙_}
+use mathlib.Core.Bool.{Bool, true, false, not}
 use mathlib.Core.List.{List, [], _∷_, _++_, append-nil}
 use native.Mathlib.Omega.{arith}
 use native.Mathlib.Nat.{add-zero}
-use lib.Dec.{leb}
-use lib.ListN.{length, getD, take, length-take}
-use borrow.Author.Tests.{not-true, not-false, le-ltb}
-use Rattle.laws.specs.Tests.{never, both}
+use lib.ListN.{length, take, length-take}
+use borrow.Author.Tests.{not-false, le-ltb}
+use Rattle.laws.specs.Tests.{never}
 use Rattle.symbol.specs.declared.Symbol.{Symbol}
-use Rattle.symbol.specs.declared.Symbol.the-variants.{Eod, Sof}
-use Rattle.symbol.specs.Classes.{endOf, ends}
+use Rattle.symbol.specs.declared.Symbol.the-variants.{Sof}
 use Rattle.symbol.specs.Clocks.{nominalClock}
 use Rattle.symbol.specs.Sending.{endWidth, sentOf}
 use Rattle.symbol.specs.SendingLaws.{nominal-good}
@@ -20,19 +18,21 @@ use Rattle.checkbyte.specs.Register.{withCheck}
 use Rattle.checkbyte.specs.Differ.{Bytes}
 use Rattle.frame.specs.declared.Response.{Response}
 use Rattle.frame.specs.declared.Response.the-variants.{Without, Plain, Checked}
+use Rattle.frame.specs.Signs.{shuts}
 use Rattle.frame.specs.Bits.{bytes, bitsOf}
-use Rattle.frame.specs.Line.{activeAt, symbolAt, endAt, is, shuts}
-use Rattle.frame.specs.Standing.{plain, checked, Standing, atSof, inMain, atNormalization, inResponse, stands}
+use Rattle.frame.specs.Line.{activeAt, symbolAt, single, endAt}
+use Rattle.frame.specs.Standing.{plain, checked, Standing, atSof, inMain, atNormalization, inResponse, counted, stands}
 use Rattle.frame.specs.Faults.{facts, mainBytes, responseBytes, mostBytes, checksOut}
-use Rattle.frame.specs.Reading.{good, faultAt, reading}
+use Rattle.frame.specs.Reading.{Good, good, closed, faultAt, frameAt, reading}
 use Rattle.frame.specs.Writing.{mostWords, responseSent, frameWords, badMessage, words, writing}
 use Rattle.frame.specs.Decided.{Earliest, GoodAt, good-at}
 use Rattle.frame.specs.Outcomes.{OpenedBy, opened-by}
 use Rattle.frame.specs.ByteLaws.{bits-back, check-back, withoutCheck, bytes-made}
 use Rattle.frame.specs.Waves.{bitSymbols, frameSymbols}
-use Rattle.frame.specs.WaveLaws.{Carry, level-turns, end-symbol}
+use Rattle.frame.specs.WaveLaws.{Carry, level-turns}
+use Rattle.frame.specs.ShownLaws.{end-passive, end-shuts, counted-end}
 use Rattle.frame.specs.WordLaws.{widthOf, sentWidths, frame-sent}
-use Rattle.frame.specs.Parts.{Complete, shut-complete}
+use Rattle.frame.specs.Parts.{Complete, ChecksRight, shut-complete}
 use Rattle.frame.specs.Admitted.{Admitted, admitted}
 use Rattle.frame.specs.Spelled.{spelled, Sound, Reached, reached}
 use Rattle.frame.specs.Nominal.{nominalAt, nominalFrom, nominalIntervals, responseBare}
@@ -60,19 +60,19 @@ record Sealed (m : List Bool) : Type 0 where
   bits : bitsOf (bytes m) ≡ m
   some : 1 ≤ length (withoutCheck (bytes m))
 
-sealed : (st : Standing) → Complete st → facts st .hasCheck ≡ true → facts st .fewest ≡ 2 → Sealed (facts st .part)
-sealed st c h f =
+sealed : (st : Standing) → Complete st → ChecksRight st → facts st .hasCheck ≡ true → facts st .fewest ≡ 2 → Sealed (facts st .part)
+sealed st c k h f =
     let two : 2 ≤ length (bytes (facts st .part)) = rw f at (c .enough) in
     record {
-      back = check-back (bytes (facts st .part)) (omega arith) (not-false (checksOut (bytes (facts st .part))) (rw h at (c .checks)));
+      back = check-back (bytes (facts st .part)) (omega arith) (not-false (checksOut (bytes (facts st .part))) (rw h at k));
       bits = bits-back (facts st .part) (c .whole-bytes);
       some = rw (length-take (length (bytes (facts st .part)) - 1) (bytes (facts st .part))) (omega arith);
     }
 
-main-message : (m : List Bool) → Complete (inMain m) → length (bytes m) ≤ mostBytes → Message (inMain m)
+main-message : (m : List Bool) → Complete (inMain m) → ChecksRight (inMain m) → length (bytes m) ≤ mostBytes → Message (inMain m)
 unfolding bytes
-main-message m c l =
-    let s : Sealed m = sealed (inMain m) c refl refl in
+main-message m c k l =
+    let s : Sealed m = sealed (inMain m) c k refl refl in
     record {
       admits = record { some-main = s .some; some-response = tt; at-most = rw (s .back) (omega arith) };
       puts = rw (s .back, s .bits) (ap (λ (x : List Symbol). Sof ∷ x) (sym (append-nil (bitSymbols m))));
@@ -80,9 +80,9 @@ main-message m c l =
       response-back = refl;
     }
 
-plain-message : (m r : List Bool) → Complete (inMain m) → Complete (inResponse plain m r) → length (bytes m) + length (bytes r) ≤ mostBytes → Message (inResponse plain m r)
-plain-message m r c d l =
-    let s : Sealed m = sealed (inMain m) c refl refl in
+plain-message : (m r : List Bool) → Complete (inMain m) → ChecksRight (inMain m) → Complete (inResponse plain m r) → length (bytes m) + length (bytes r) ≤ mostBytes → Message (inResponse plain m r)
+plain-message m r c k d l =
+    let s : Sealed m = sealed (inMain m) c k refl refl in
     record {
       admits = record { some-main = s .some; some-response = d .enough; at-most = rw (s .back) l };
       puts = rw (s .back, s .bits, bits-back r (d .whole-bytes));
@@ -90,10 +90,10 @@ plain-message m r c d l =
       response-back = refl;
     }
 
-checked-message : (m r : List Bool) → Complete (inMain m) → Complete (inResponse checked m r) → length (bytes m) + length (bytes r) ≤ mostBytes → Message (inResponse checked m r)
-checked-message m r c d l =
-    let s : Sealed m = sealed (inMain m) c refl refl in
-    let t : Sealed r = sealed (inResponse checked m r) d refl refl in
+checked-message : (m r : List Bool) → Complete (inMain m) → ChecksRight (inMain m) → Complete (inResponse checked m r) → ChecksRight (inResponse checked m r) → length (bytes m) + length (bytes r) ≤ mostBytes → Message (inResponse checked m r)
+checked-message m r c k d j l =
+    let s : Sealed m = sealed (inMain m) c k refl refl in
+    let t : Sealed r = sealed (inResponse checked m r) d j refl refl in
     record {
       admits = record { some-main = s .some; some-response = t .some; at-most = rw (s .back, t .back) l };
       puts = rw (s .back, t .back, s .bits, t .bits);
@@ -101,18 +101,18 @@ checked-message m r c d l =
       response-back = t .back;
     }
 
--- A closing end stands behind a complete part, and what it closes is a message.
-message : (active : Bool) (st : Standing) → active ≡ false → Sound active st → Complete st → Message st
-message active atSof p h c = never h p
-message active (inMain m) p h c = main-message m c h
-message active (atNormalization m) p h c = never (h .0) p
-message active (inResponse plain m r) p h c = plain-message m r (h .0) c (h .1)
-message active (inResponse checked m r) p h c = checked-message m r (h .0) c (h .1)
+-- A closing end stands after a complete part with the right check, and what it closes is a message.
+message : (active : Bool) (st : Standing) → active ≡ false → Sound mostBytes active st → Complete st → ChecksRight st → Message st
+message active atSof p h c k = never h p
+message active (inMain m) p h c k = main-message m c k h
+message active (atNormalization m) p h c k = never (h .0) p
+message active (inResponse plain m r) p h c k = plain-message m r (h .0) (h .1 .0) c (h .1 .1)
+message active (inResponse checked m r) p h c k = checked-message m r (h .0) (h .1 .0) c k (h .1 .1)
 
 -- ## The widths
 
 -- Places that carry symbols, and are no ends, have at nominal widths what the nominal clock sends.
-carry-nominal : (ws : List ℕ) (i : ℕ) (symbols : List Symbol) → Carry ws i symbols → ((j : ℕ) → i ≤ j → j < i + length symbols → endAt ws j ≡ false)
+carry-nominal : (ws : List ℕ) (i : ℕ) (symbols : List Symbol) → Carry ws i symbols → ((j : ℕ) → i ≤ j → j < i + length symbols → endAt (single ws) j ≡ false)
     → nominalFrom ws i (length symbols) ≡ sentWidths nominalClock (activeAt i) symbols
 unfolding nominalFrom nominalAt sentWidths
 carry-nominal ws i [] c n = refl
@@ -132,21 +132,16 @@ nominal-both : (ws : List ℕ) (i n : ℕ) → nominalFrom ws i (suc (suc n)) �
 unfolding nominalFrom
 nominal-both ws i n = ap (λ (l : List ℕ). nominalAt ws i ∷ l) (nominal-more ws (i + 1) n)
 
-end-nominal : (ws : List ℕ) (j : ℕ) → endAt ws j ≡ true → nominalAt ws j ≡ endWidth .0
+end-nominal : (ws : List ℕ) (j : ℕ) → endAt (single ws) j ≡ true → nominalAt ws j ≡ endWidth .0
 unfolding nominalAt
 end-nominal ws j e = rw e
-
--- An end is passive.
-end-passive : (ws : List ℕ) (j : ℕ) → endAt ws j ≡ true → activeAt j ≡ false
-unfolding endAt endOf
-end-passive ws j e = not-true (activeAt j) (both (not (activeAt j)) (leb 240 (getD ws j 0)) e .0)
 
 -- ## The theorem
 
 -- The message of the frame that opens at o and closes at k, and its words again.
 record Written (ws : List ℕ) (o k : ℕ) : Type 0 where
-  its-message : Message (stands ws o k)
-  its-words : frameWords nominalClock (mainOf (stands ws o k)) (facts (stands ws o k) .answered) (responseOf (stands ws o k)) ≡ nominalIntervals ws o k
+  its-message : Message (stands (single ws) o k)
+  its-words : frameWords nominalClock (mainOf (stands (single ws) o k)) (facts (stands (single ws) o k) .answered) (responseOf (stands (single ws) o k)) ≡ nominalIntervals ws o k
   its-count : length (nominalIntervals ws o k) ≡ k - o + 1
 
 nominal-length : (ws : List ℕ) (i n : ℕ) → length (nominalFrom ws i n) ≡ n
@@ -154,26 +149,21 @@ unfolding nominalFrom
 nominal-length ws i zero = refl
 nominal-length ws i (suc n) = ap suc (nominal-length ws (i + 1) n)
 
-ends-shut : (s : Symbol) → ends s ≡ true → shuts s ≡ true
-ends-shut s e = rw e (go (is Eod s))
-  where
-    go : (b : Bool) → (b || true) ≡ true
-    go true = refl
-    go false = refl
-
-written : (ws : List ℕ) (o k : ℕ) → endAt ws o ≡ true → Earliest ws o k → faultAt ws o k ≡ 0 → endAt ws k ≡ true → Written ws o k
+written : (ws : List ℕ) (o k : ℕ) → endAt (single ws) o ≡ true → Earliest mostBytes (single ws) o k → faultAt mostBytes (single ws) o k ≡ 0
+    → endAt (single ws) k ≡ true → Written ws o k
 written ws o k first e f last =
     let active : activeAt (o + 1) ≡ true = level-turns o ∙ ap not (end-passive ws o first) in
-    let r : Reached ws o k = reached ws o k (e .behind) active (e .before) in
-    let complete : Complete (stands ws o k) = shut-complete (stands ws o k) (symbolAt ws k) (ends-shut (symbolAt ws k) (sym (end-symbol ws k) ∙ last)) f in
-    let m : Message (stands ws o k) = message (activeAt k) (stands ws o k) (end-passive ws k last) (r .sound) complete in
-    let inner : nominalFrom ws (o + 1) (length (spelled (stands ws o k))) ≡ sentWidths nominalClock (activeAt (o + 1)) (spelled (stands ws o k)) = carry-nominal ws (o + 1) (spelled (stands ws o k)) (r .carry) (λ j x y. e .before .no-end j (omega arith) (omega (arith, r .count))) in
-    let n : k + 1 - o ≡ suc (suc (length (spelled (stands ws o k)))) = omega (arith, r .count) in
+    let r : Reached mostBytes ws o k = reached mostBytes ws o k (e .behind) active (e .before) in
+    let done = shut-complete mostBytes (stands (single ws) o k) (single ws .shows k) (ap shuts (end-shuts (symbolAt ws k) last)) f in
+    let same : counted (stands (single ws) o k) (single ws .shows k) ≡ stands (single ws) o k = counted-end (stands (single ws) o k) (symbolAt ws k) last in
+    let m : Message (stands (single ws) o k) = message (activeAt k) (stands (single ws) o k) (end-passive ws k last) (r .sound) (subst Complete same (done .0)) (subst ChecksRight same (done .1)) in
+    let inner : nominalFrom ws (o + 1) (length (spelled (stands (single ws) o k))) ≡ sentWidths nominalClock (activeAt (o + 1)) (spelled (stands (single ws) o k)) = carry-nominal ws (o + 1) (spelled (stands (single ws) o k)) (r .carry) (λ j x y. e .before .no-end j (omega arith) (omega (arith, r .count))) in
+    let n : k + 1 - o ≡ suc (suc (length (spelled (stands (single ws) o k)))) = omega (arith, r .count) in
     record {
       its-message = m;
       its-words =
-          frame-sent nominalClock (mainOf (stands ws o k)) (facts (stands ws o k) .answered) (responseOf (stands ws o k))
-          ∙ rw (← (m .puts), n, nominal-both ws o (length (spelled (stands ws o k))), r .count, end-nominal ws o first, end-nominal ws k last, inner, active);
+          frame-sent nominalClock (mainOf (stands (single ws) o k)) (facts (stands (single ws) o k) .answered) (responseOf (stands (single ws) o k))
+          ∙ rw (← (m .puts), n, nominal-both ws o (length (spelled (stands (single ws) o k))), r .count, end-nominal ws o first, end-nominal ws k last, inner, active);
       its-count = nominal-length ws o (k + 1 - o) ∙ omega (arith, e .behind);
     }
 
@@ -190,43 +180,43 @@ bare-bytes Checked bs h = take-bytes (length bs - 1) bs h
 -- What is known of a good frame that was read: without their checks its parts are an admitted message, which with its checks is
 -- those parts; and written at the nominal clock that message is the recording's intervals from opening to closing, each
 -- replaced by its symbol's nominal width, both ends by 300, and so many words as these intervals are.
-pub record WrittenAgain (ws main response : List ℕ) (kind : Response) (o k : ℕ) : Type 0 where
-  pub is-admitted : badMessage (withoutCheck main) kind (responseBare kind response) ≡ false
-  pub main-bytes : Bytes (withoutCheck main)
-  pub response-bytes : Bytes (responseBare kind response)
-  pub main-again : withCheck (withoutCheck main) ≡ main
-  pub response-again : responseSent kind (responseBare kind response) ≡ response
-  pub same-words : frameWords nominalClock (withoutCheck main) kind (responseBare kind response) ≡ nominalIntervals ws o k
-  pub as-many : length (frameWords nominalClock (withoutCheck main) kind (responseBare kind response)) ≡ k - o + 1
+pub record WrittenAgain (ws : List ℕ) (f : Good) : Type 0 where
+  pub is-admitted : badMessage (withoutCheck (f .main)) (f .kind) (responseBare (f .kind) (f .response)) ≡ false
+  pub main-bytes : Bytes (withoutCheck (f .main))
+  pub response-bytes : Bytes (responseBare (f .kind) (f .response))
+  pub main-again : withCheck (withoutCheck (f .main)) ≡ f .main
+  pub response-again : responseSent (f .kind) (responseBare (f .kind) (f .response)) ≡ f .response
+  pub same-words : frameWords nominalClock (withoutCheck (f .main)) (f .kind) (responseBare (f .kind) (f .response)) ≡ nominalIntervals ws (f .opening) (f .next)
+  pub as-many : length (frameWords nominalClock (withoutCheck (f .main)) (f .kind) (responseBare (f .kind) (f .response))) ≡ f .next - f .opening + 1
 
-again : (ws main response : List ℕ) (kind : Response) (opened o k : ℕ) → endAt ws o ≡ true → GoodAt ws o main response kind opened k
-    → WrittenAgain ws main response kind opened k
-again ws main response kind opened o k first g = rw (g .opened-at, g .main-is, g .response-is, g .kind-is) (told (written ws o k first (g .earliest) (g .no-fault) (g .end)))
-  where
-    told : Written ws o k → WrittenAgain ws (mainBytes (stands ws o k)) (responseBytes (stands ws o k)) (facts (stands ws o k) .answered) o k
-    told w =
-        record {
-          is-admitted = admitted (mainOf (stands ws o k)) (facts (stands ws o k) .answered) (responseOf (stands ws o k)) .1 (w .its-message .admits);
-          main-bytes = take-bytes (length (mainBytes (stands ws o k)) - 1) (mainBytes (stands ws o k)) (bytes-made (facts (stands ws o k) .main));
-          response-bytes = bare-bytes (facts (stands ws o k) .answered) (responseBytes (stands ws o k)) (bytes-made (facts (stands ws o k) .response));
-          main-again = w .its-message .main-back;
-          response-again = w .its-message .response-back;
-          same-words = w .its-words;
-          as-many = ap length (w .its-words) ∙ w .its-count;
-        }
+again-at : (ws : List ℕ) (o k : ℕ) → Written ws o k → WrittenAgain ws (closed (stands (single ws) o k) o k)
+again-at ws o k w =
+    record {
+      is-admitted = admitted (mainOf (stands (single ws) o k)) (facts (stands (single ws) o k) .answered) (responseOf (stands (single ws) o k)) .1 (w .its-message .admits);
+      main-bytes = take-bytes (length (mainBytes (stands (single ws) o k)) - 1) (mainBytes (stands (single ws) o k)) (bytes-made (facts (stands (single ws) o k) .main));
+      response-bytes = bare-bytes (facts (stands (single ws) o k) .answered) (responseBytes (stands (single ws) o k)) (bytes-made (facts (stands (single ws) o k) .response));
+      main-again = w .its-message .main-back;
+      response-again = w .its-message .response-back;
+      same-words = w .its-words;
+      as-many = ap length (w .its-words) ∙ w .its-count;
+    }
+
+again : (ws : List ℕ) (o : ℕ) (f : Good) → endAt (single ws) o ≡ true → GoodAt mostBytes (single ws) o f → WrittenAgain ws f
+again ws o f first g =
+    let k : ℕ = f .next in
+    let same : frameAt (single ws) o k ≡ closed (stands (single ws) o k) o k = ap (λ (st : Standing). closed st o k) (counted-end (stands (single ws) o k) (symbolAt ws k) (g .end)) in
+    subst (WrittenAgain ws) (sym (g .frame-is ∙ same)) (again-at ws o k (written ws o k first (g .earliest) (g .no-fault) (g .end)))
 
 -- DEMAND 2, SECOND THEOREM. For every recording and every position from which reading answers a good frame.
-pub written-again : (ws : List ℕ) (p lent : ℕ) (main response : List ℕ) (kind : Response) (o k : ℕ)
-    → reading ws p lent ≡ good main response kind o k → WrittenAgain ws main response kind o k
-written-again ws p lent main response kind o k e =
-    let r : OpenedBy ws p lent (good main response kind o k) = opened-by ws p lent (good main response kind o k) refl e in
-    again ws main response kind o (r .opening) k (r .opens .end) (good-at ws (r .opening) main response kind o k (r .is-decided))
+pub written-again : (ws : List ℕ) (p lent : ℕ) (f : Good) → reading ws p lent ≡ good f → WrittenAgain ws f
+written-again ws p lent f e =
+    let r : OpenedBy mostBytes (single ws) p lent (good f) = opened-by mostBytes (single ws) p lent (good f) refl e in
+    again ws (r .opening) f (r .opens .end) (good-at mostBytes (single ws) (r .opening) f (r .is-decided))
 
 -- The same through the writer's whole definition, refusals included: with 101 words lent it writes exactly those intervals.
-pub writes-again : (ws : List ℕ) (p lent : ℕ) (main response : List ℕ) (kind : Response) (o k room : ℕ)
-    → reading ws p lent ≡ good main response kind o k → mostWords ≤ room
-    → writing nominalClock (withoutCheck main) kind (responseBare kind response) room ≡ words (nominalIntervals ws o k)
+pub writes-again : (ws : List ℕ) (p lent : ℕ) (f : Good) (room : ℕ) → reading ws p lent ≡ good f → mostWords ≤ room
+    → writing nominalClock (withoutCheck (f .main)) (f .kind) (responseBare (f .kind) (f .response)) room ≡ words (nominalIntervals ws (f .opening) (f .next))
 unfolding writing
-writes-again ws p lent main response kind o k room e h =
-    let a : WrittenAgain ws main response kind o k = written-again ws p lent main response kind o k e in
+writes-again ws p lent f room e h =
+    let a : WrittenAgain ws f = written-again ws p lent f e in
     rw (nominal-good, a .is-admitted, le-ltb room mostWords h, a .same-words)

@@ -50,8 +50,8 @@ told FewLentBytes = bare 32 0 0
 
 -- the number and the values of each outcome
 abbrev pub tells : Outcome → Told
-tells (good main response kind opening next) =
-    record { number = 0; next = next; opening = opening; mainLength = length main; responseLength = length response; response = kind }
+tells (good f) =
+    record { number = 0; next = f .next; opening = f .opening; mainLength = length (f .main); responseLength = length (f .response); response = f .kind }
 tells (quiet next) = bare 1 next 0
 tells (unfinished opening) = bare 2 opening opening
 tells (faulty number next) = bare number next 0
@@ -60,7 +60,7 @@ tells (refused number) = bare number 0 0
 -- "On answer 0 the main bytes, then the response bytes, checks included, stand first in the lent bytes .. On any other
 -- answer nothing is written."
 abbrev pub written : Outcome → List ℕ
-written (good main response kind opening next) = main ++ response
+written (good f) = f .main ++ f .response
 written (quiet next) = []
 written (unfinished opening) = []
 written (faulty number next) = []

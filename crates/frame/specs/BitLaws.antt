@@ -1,7 +1,7 @@
 -- One bit more: what it does to the bytes so far and to the bits that are left over.
 use Prim.Native.Nat.{ℕ, zero, suc, _+_, _-_, _*_, _%_, _≤_, _<_}
-use mathlib.Core.Path.{_≡_, refl, ap, _∙_}
-use mathlib.Core.List.{List, [], _∷_, _++_}
+use mathlib.Core.Path.{_≡_, refl, sym, ap, _∙_}
+use mathlib.Core.List.{List, [], _∷_, _++_, append-nil, append-assoc}
 use mathlib.Core.Bool.{Bool, true, false}
 use native.Mathlib.Omega.{arith}
 use native.Mathlib.Nat.{add-zero}
@@ -9,10 +9,10 @@ use lib.Dec.{eqb}
 use lib.ListN.{length, length-append}
 use lib.Seq.{take-append-seam, getD-append-seam}
 use borrow.Author.Tests.{ne-eqb}
-use Rattle.symbol.specs.declared.Symbol.the-variants.{Bit1}
 use Rattle.checkbyte.specs.Register.{stepOf, registerFrom, checkOf}
 use Rattle.frame.specs.Bits.{value, byte, bytes}
-use Rattle.frame.specs.Line.{symbolAt, is, bitsFrom, bitsIn}
+use Rattle.frame.specs.Signs.{bitsShown}
+use Rattle.frame.specs.Line.{Line, bitsFrom, bitsIn}
 use Rattle.frame.specs.Faults.{checksOut, whole}
 
 -- the bits that make no whole byte yet
@@ -99,21 +99,22 @@ checks-more bs b =
     let n : length (bs ++ (b ∷ [])) - 1 ≡ length bs = simp length-append (omega arith) in
     rw (n, getD-append-seam bs b [] 0, take-append-seam bs (b ∷ []))
 
-bits-more : (ws : List ℕ) (i n : ℕ) → bitsFrom ws i (suc n) ≡ bitsFrom ws i n ++ (is Bit1 (symbolAt ws (i + n)) ∷ [])
+bits-more : (l : Line) (i n : ℕ) → bitsFrom l i (suc n) ≡ bitsFrom l i n ++ bitsShown (l .shows (i + n))
 unfolding bitsFrom
-bits-more ws i zero = rw (add-zero i)
-bits-more ws i (suc n) =
+bits-more l i zero = rw (add-zero i) (append-nil (bitsShown (l .shows i)))
+bits-more l i (suc n) =
     let move : i + 1 + n ≡ i + suc n = omega arith in
-    ap (λ (l : List Bool). is Bit1 (symbolAt ws i) ∷ l) (bits-more ws (i + 1) n ∙ rw move)
+    ap (λ (x : List Bool). bitsShown (l .shows i) ++ x) (bits-more l (i + 1) n ∙ rw move)
+    ∙ sym (append-assoc (bitsShown (l .shows i)) (bitsFrom l (i + 1) n) (bitsShown (l .shows (i + suc n))))
 
 -- The bits of places, and of one place more.
-pub bits-next : (ws : List ℕ) (i k : ℕ) → i ≤ k → bitsIn ws i (k + 1) ≡ bitsIn ws i k ++ (is Bit1 (symbolAt ws k) ∷ [])
-bits-next ws i k h =
+pub bits-next : (l : Line) (i k : ℕ) → i ≤ k → bitsIn l i (k + 1) ≡ bitsIn l i k ++ bitsShown (l .shows k)
+bits-next l i k h =
     let n : k + 1 - i ≡ suc (k - i) = omega arith in
     let m : i + (k - i) ≡ k = omega arith in
-    ap (bitsFrom ws i) n ∙ bits-more ws i (k - i) ∙ ap (λ (x : ℕ). bitsFrom ws i (k - i) ++ (is Bit1 (symbolAt ws x) ∷ [])) m
+    ap (bitsFrom l i) n ∙ bits-more l i (k - i) ∙ ap (λ (x : ℕ). bitsFrom l i (k - i) ++ bitsShown (l .shows x)) m
 
--- No places carry no bits.
-pub bits-empty : (ws : List ℕ) (i k : ℕ) → k ≤ i → bitsIn ws i k ≡ []
+-- No places show no bits.
+pub bits-empty : (l : Line) (i k : ℕ) → k ≤ i → bitsIn l i k ≡ []
 unfolding bitsFrom
-bits-empty ws i k h = let n : k - i ≡ 0 = omega arith in ap (bitsFrom ws i) n
+bits-empty l i k h = let n : k - i ≡ 0 = omega arith in ap (bitsFrom l i) n

@@ -4,16 +4,14 @@ use mathlib.Core.Bool.{Bool, true, false, cond, not, _&&_}
 use mathlib.Core.List.{List, [], _++_}
 use lib.Dec.{eqb, ltb}
 use lib.ListN.{length, getD, take}
-use Rattle.symbol.specs.declared.Symbol.{Symbol}
-use Rattle.symbol.specs.declared.Symbol.the-variants.{Noise, Eod, Sof, Break, Stuck}
 use Rattle.checkbyte.specs.Register.{checkOf}
 use Rattle.frame.specs.declared.Response.{Response}
 use Rattle.frame.specs.declared.Response.the-variants.{Without, Plain, Checked}
 use Rattle.frame.specs.Bits.{bytes}
-use Rattle.frame.specs.Line.{is, isBit, shuts}
-use Rattle.frame.specs.Standing.{plain, checked, Standing, atSof, inMain, atNormalization, inResponse}
+use Rattle.frame.specs.Signs.{Sign, wrongOf, isEod, isBit, isSof, shuts}
+use Rattle.frame.specs.Standing.{plain, checked, Standing, atSof, inMain, atNormalization, inResponse, counted}
 
--- "All bytes together are at most 12."
+-- "All bytes together are at most 12.": the limit of bytes in a frame of document 01
 abbrev pub mostBytes : ℕ
 mostBytes = 12
 
@@ -57,19 +55,18 @@ checksOut bs = eqb (getD bs (length bs - 1) 0) (checkOf (take (length bs - 1) bs
 abbrev pub whole : List Bool → Bool
 whole bits = eqb (length bits % 8) 0
 
--- The fault of an interval that is the symbol s and stands at st, and 0 where it is at none. "At one interval the order
--- is 11, 14, 13, 12, 15, 16, 17, 18, 19, 20." (Row 20 holds at each bit behind twelve whole bytes; the earliest interval
--- decides, so that it is told of the first bit of the thirteenth byte.)
-unfoldable pub fault : Standing → Symbol → ℕ
-fault st s =
-    cond (is Noise s) 11
-    (cond (is Stuck s) 14
-    (cond (is Break s) 13
+-- The fault of an interval that shows s and stands at st, where a frame has at most `limit` bytes, and 0 where it is at none.
+-- "At one interval the order is 11, 14, 13, 12, 15, 16, 17, 18, 19, 20": what is wrong by itself comes first. An EOD or end
+-- is judged with the bit that it completes, if any. (Row 20 holds at each bit after the last whole byte that a frame may
+-- have; the earliest interval decides, so that it is told of the first bit of the byte after it.)
+unfoldable pub fault : (limit : ℕ) → Standing → Sign → ℕ
+fault limit st s =
+    cond (not (eqb (wrongOf s) 0)) (wrongOf s)
     (cond (facts st .sofPlace && isBit s) 12
-    (cond (not (facts st .sofPlace) && is Sof s) 15
-    (cond (shuts s && not (whole (facts st .part))) 16
-    (cond (shuts s && ltb (length (partBytes st)) (facts st .fewest)) 17
-    (cond (shuts s && (facts st .hasCheck && not (checksOut (partBytes st)))) 18
-    (cond (is Eod s && facts st .responding) 19
-    (cond (isBit s && (facts st .inPart && eqb (length (mainBytes st ++ responseBytes st)) mostBytes)) 20
-    0)))))))))
+    (cond (not (facts st .sofPlace) && isSof s) 15
+    (cond (shuts s && not (whole (facts (counted st s) .part))) 16
+    (cond (shuts s && ltb (length (partBytes (counted st s))) (facts (counted st s) .fewest)) 17
+    (cond (shuts s && (facts (counted st s) .hasCheck && not (checksOut (partBytes (counted st s))))) 18
+    (cond (isEod s && facts (counted st s) .responding) 19
+    (cond (isBit s && (facts st .inPart && eqb (length (mainBytes st ++ responseBytes st)) limit)) 20
+    0)))))))

@@ -1,12 +1,14 @@
--- A recording as document 01 looks at it: the symbol at each place, and the first place of which something is true.
+-- A recording as document 01 looks at it: the symbol at each place, what the place shows, and the first place of which
+-- something is true.
 use Prim.Native.Nat.{ℕ, zero, suc, _+_, _-_, _%_}
-use mathlib.Core.Bool.{Bool, cond, _||_}
-use mathlib.Core.List.{List, [], _∷_}
+use mathlib.Core.Bool.{Bool, true, false, cond}
+use mathlib.Core.List.{List, [], _++_}
 use lib.Dec.{eqb}
 use lib.ListN.{length, getD}
 use Rattle.symbol.specs.declared.Symbol.{Symbol}
 use Rattle.symbol.specs.declared.Symbol.the-variants.{Noise, Bit0, Bit1, Eod, Sof, Eof, Ifs, Break, Stuck}
-use Rattle.symbol.specs.Classes.{classOf, endOf, ends}
+use Rattle.symbol.specs.Classes.{classOf}
+use Rattle.frame.specs.Signs.{Sign, wrong, sof, bit, shut, bitsShown, isEnd}
 
 -- ## Symbols
 
@@ -17,10 +19,6 @@ activeAt k = eqb (k % 2) 1
 -- the symbol at a place
 unfoldable pub symbolAt : List ℕ → ℕ → Symbol
 symbolAt ws k = classOf (activeAt k) (getD ws k 0)
-
--- an end at a place: the place is even, and the width is 240 or more
-unfoldable pub endAt : List ℕ → ℕ → Bool
-endAt ws k = endOf (activeAt k) (getD ws k 0)
 
 -- a number for each symbol, by which two are told apart
 abbrev pub mark : Symbol → ℕ
@@ -38,13 +36,32 @@ mark Stuck = 8
 abbrev pub is : Symbol → Symbol → Bool
 is x s = eqb (mark x) (mark s)
 
--- the symbol is a bit
-abbrev pub isBit : Symbol → Bool
-isBit s = is Bit0 s || is Bit1 s
+-- what a symbol shows inside a frame: noise, a break and a stuck line are wrong by themselves, as faults 11, 13 and 14
+abbrev pub signOf : Symbol → Sign
+signOf Noise = wrong 11
+signOf Bit0 = bit false
+signOf Bit1 = bit true
+signOf Eod = shut true
+signOf Sof = sof
+signOf Eof = shut false
+signOf Ifs = shut false
+signOf Break = wrong 13
+signOf Stuck = wrong 14
 
--- the symbol is an EOD or an end: it closes a part
-abbrev pub shuts : Symbol → Bool
-shuts s = is Eod s || ends s
+-- ## Lines
+
+-- a recording as a frame is looked for in it: how many intervals there are, and what each of them shows
+pub record Line : Type 0 where
+  pub count : ℕ
+  pub shows : ℕ → Sign
+
+-- the line of document 01: each interval shows what its symbol does
+abbrev pub single : List ℕ → Line
+single ws = record { count = length ws; shows = λ k. signOf (symbolAt ws k) }
+
+-- an end at a place
+abbrev pub endAt : Line → ℕ → Bool
+endAt l k = isEnd (l .shows k)
 
 -- ## The first place
 
@@ -63,16 +80,16 @@ abbrev pub firstIn : (ℕ → Bool) → ℕ → ℕ → Found
 firstIn test i k = first test i (k - i)
 
 -- "Reading from position p looks for the first end at an even place at or after p .. That is the opening."
-unfoldable pub opening : List ℕ → ℕ → Found
-opening ws p = firstIn (endAt ws) p (length ws)
+unfoldable pub opening : Line → ℕ → Found
+opening l p = firstIn (endAt l) p (l .count)
 
--- ## The bits that places carry
+-- ## The bits that places show
 
 -- the bits of n places, from i on
-unfoldable pub bitsFrom : List ℕ → ℕ → ℕ → List Bool
-bitsFrom ws i zero = []
-bitsFrom ws i (suc n) = is Bit1 (symbolAt ws i) ∷ bitsFrom ws (i + 1) n
+unfoldable pub bitsFrom : Line → ℕ → ℕ → List Bool
+bitsFrom l i zero = []
+bitsFrom l i (suc n) = bitsShown (l .shows i) ++ bitsFrom l (i + 1) n
 
 -- the bits of the places from i on, and before k
-abbrev pub bitsIn : List ℕ → ℕ → ℕ → List Bool
-bitsIn ws i k = bitsFrom ws i (k - i)
+abbrev pub bitsIn : Line → ℕ → ℕ → List Bool
+bitsIn l i k = bitsFrom l i (k - i)

@@ -6,13 +6,13 @@ use Rattle.symbol.specs.Clocks.{nominalClock}
 use Rattle.symbol.specs.Sending.{endWidth, sentOf}
 use Rattle.frame.specs.declared.Response.{Response}
 use Rattle.frame.specs.declared.Response.the-variants.{Without, Plain, Checked}
-use Rattle.frame.specs.Line.{activeAt, symbolAt, endAt}
+use Rattle.frame.specs.Line.{activeAt, symbolAt, single, endAt}
 use Rattle.frame.specs.ByteLaws.{withoutCheck}
 use Rattle.frame.specs.WordLaws.{widthOf}
 
 -- the nominal width of the interval at j: 300 for an end, else what the nominal clock sends for its symbol at its level
 unfoldable pub nominalAt : List ℕ → ℕ → ℕ
-nominalAt ws j = cond (endAt ws j) (endWidth .0) (widthOf (sentOf nominalClock (activeAt j) (symbolAt ws j)))
+nominalAt ws j = cond (endAt (single ws) j) (endWidth .0) (widthOf (sentOf nominalClock (activeAt j) (symbolAt ws j)))
 
 -- the nominal widths of n places, from i on
 unfoldable pub nominalFrom : List ℕ → ℕ → ℕ → List ℕ

@@ -1,31 +1,29 @@
 -- When reading is quiet and when it is unfinished: rows 1 and 2 of the table "What reading answers", each exactly when.
 use Prim.Native.Nat.{ℕ, _≤_}
 use mathlib.Core.Path.{_≡_, refl, sym, ap, _∙_}
-use mathlib.Core.List.{List}
 use mathlib.Core.Logic.{_↔_}
 use native.Mathlib.Omega.{arith}
-use lib.ListN.{length}
 use Rattle.laws.specs.Tests.{never}
-use Rattle.frame.specs.Faults.{mostBytes}
-use Rattle.frame.specs.Reading.{Outcome, good, quiet, unfinished, faulty, refused, decided, reading}
+use Rattle.frame.specs.Line.{Line}
+use Rattle.frame.specs.Reading.{Outcome, good, quiet, unfinished, faulty, refused, decided, readOn}
 use Rattle.frame.specs.Decided.{Undecided, Decision, isUnfinished, isGood, isFaulty, decision}
 use Rattle.frame.specs.Outcomes.{Opens, Comes, isPast, isShort, isQuiet, isOpened, comes, opened-reading}
 
 -- 1: "quiet: no opening, or no interval after it", where neither 31 nor 32 applies
-pub record Silent (ws : List ℕ) (p lent : ℕ) : Type 0 where
-  pub inside : p ≤ length ws
-  pub enough : mostBytes ≤ lent
-  pub none-opens : (o : ℕ) → ¬ (Opens ws p o)
+pub record Silent (limit : ℕ) (l : Line) (p lent : ℕ) : Type 0 where
+  pub inside : p ≤ l .count
+  pub enough : limit ≤ lent
+  pub none-opens : (o : ℕ) → ¬ (Opens l p o)
 
 -- 2: "at least one interval follows the opening, none is at fault, none closes the frame"
-pub record Unclosed (ws : List ℕ) (p lent o : ℕ) : Type 0 where
-  pub enough : mostBytes ≤ lent
-  pub opens : Opens ws p o
-  pub none-decides : Undecided ws o (length ws)
+pub record Unclosed (limit : ℕ) (l : Line) (p lent o : ℕ) : Type 0 where
+  pub enough : limit ≤ lent
+  pub opens : Opens l p o
+  pub none-decides : Undecided limit l o (l .count)
 
 -- the row of an outcome, where it is one of these two
 abbrev row : Outcome → ℕ
-row (good main response kind opening next) = 0
+row (good f) = 0
 row (quiet next) = 1
 row (unfinished opening) = 2
 row (faulty number next) = 0
@@ -33,7 +31,7 @@ row (refused number) = 0
 
 -- the place that an unfinished frame opens at
 abbrev opened : Outcome → ℕ
-opened (good main response kind opening next) = 0
+opened (good f) = 0
 opened (quiet next) = 0
 opened (unfinished opening) = opening
 opened (faulty number next) = 0
@@ -42,56 +40,56 @@ opened (refused number) = 0
 other-row : {A : Type 0} (x y : Outcome) → x ≡ y → ¬ (row x ≡ row y) → A
 other-row x y e d = absurd (d (ap row e))
 
-never-quiet : (ws : List ℕ) (o p : ℕ) (y : Outcome) → Decision ws o y → ¬ (y ≡ quiet p)
-never-quiet ws o p y (isUnfinished u) e = other-row y (quiet p) e (λ z. omega arith)
-never-quiet ws o p y (isGood k f h) e = other-row y (quiet p) e (λ z. omega arith)
-never-quiet ws o p y (isFaulty k f) e = other-row y (quiet p) e (λ z. omega arith)
+never-quiet : (limit : ℕ) (l : Line) (o p : ℕ) (y : Outcome) → Decision limit l o y → ¬ (y ≡ quiet p)
+never-quiet limit l o p y (isUnfinished u) e = other-row y (quiet p) e (λ z. omega arith)
+never-quiet limit l o p y (isGood k f h) e = other-row y (quiet p) e (λ z. omega arith)
+never-quiet limit l o p y (isFaulty k f) e = other-row y (quiet p) e (λ z. omega arith)
 
 -- Reading is quiet exactly when that is so.
-pub quiet-exactly : (ws : List ℕ) (p lent : ℕ) → (reading ws p lent ≡ quiet p) ↔ Silent ws p lent
-quiet-exactly ws p lent = (there (reading ws p lent) (comes ws p lent) refl, λ s. back s (reading ws p lent) (comes ws p lent))
+pub quiet-exactly : (limit : ℕ) (l : Line) (p lent : ℕ) → (readOn limit l p lent ≡ quiet p) ↔ Silent limit l p lent
+quiet-exactly limit l p lent = (there (readOn limit l p lent) (comes limit l p lent) refl, λ s. back s (readOn limit l p lent) (comes limit l p lent))
   where
-    silent : p ≤ length ws → mostBytes ≤ lent → reading ws p lent ≡ quiet p → Silent ws p lent
-    silent h l e =
+    silent : p ≤ l .count → limit ≤ lent → readOn limit l p lent ≡ quiet p → Silent limit l p lent
+    silent h fits e =
         record {
           inside = h;
-          enough = l;
-          none-opens = λ o op. never-quiet ws o p (decided ws o) (decision ws o) (sym (opened-reading ws p lent o l op) ∙ e);
+          enough = fits;
+          none-opens = λ o op. never-quiet limit l o p (decided limit l o) (decision limit l o) (sym (opened-reading limit l p lent o fits op) ∙ e);
         }
 
-    there : (x : Outcome) → Comes ws p lent x → reading ws p lent ≡ x → reading ws p lent ≡ quiet p → Silent ws p lent
+    there : (x : Outcome) → Comes limit l p lent x → readOn limit l p lent ≡ x → readOn limit l p lent ≡ quiet p → Silent limit l p lent
     there x (isPast h) q e = other-row x (quiet p) (sym q ∙ e) (λ z. omega arith)
-    there x (isShort h l) q e = other-row x (quiet p) (sym q ∙ e) (λ z. omega arith)
-    there x (isQuiet h l) q e = silent h l e
-    there x (isOpened h l op) q e = silent h l e
+    there x (isShort h fits) q e = other-row x (quiet p) (sym q ∙ e) (λ z. omega arith)
+    there x (isQuiet h fits) q e = silent h fits e
+    there x (isOpened h fits op) q e = silent h fits e
 
-    back : Silent ws p lent → (x : Outcome) → Comes ws p lent x → x ≡ quiet p
+    back : Silent limit l p lent → (x : Outcome) → Comes limit l p lent x → x ≡ quiet p
     back s x (isPast h) = absurd (omega (arith, s .inside))
-    back s x (isShort h l) = absurd (omega (arith, s .enough))
-    back s x (isQuiet h l) = refl
-    back s x (isOpened {o} h l op) = absurd (s .none-opens o op)
+    back s x (isShort h fits) = absurd (omega (arith, s .enough))
+    back s x (isQuiet h fits) = refl
+    back s x (isOpened {o} h fits op) = absurd (s .none-opens o op)
 
 -- Reading is unfinished, with the opening at o, exactly when that is so.
-pub unfinished-exactly : (ws : List ℕ) (p lent o : ℕ) → (reading ws p lent ≡ unfinished o) ↔ Unclosed ws p lent o
-unfinished-exactly ws p lent o = (λ e. there (reading ws p lent) (comes ws p lent) e, back)
+pub unfinished-exactly : (limit : ℕ) (l : Line) (p lent o : ℕ) → (readOn limit l p lent ≡ unfinished o) ↔ Unclosed limit l p lent o
+unfinished-exactly limit l p lent o = (λ e. there (readOn limit l p lent) (comes limit l p lent) e, back)
   where
-    unclosed : (o' : ℕ) → mostBytes ≤ lent → Opens ws p o' → (y : Outcome) → Decision ws o' y → y ≡ unfinished o → Unclosed ws p lent o
-    unclosed o' l op y (isUnfinished u) e =
+    unclosed : (o' : ℕ) → limit ≤ lent → Opens l p o' → (y : Outcome) → Decision limit l o' y → y ≡ unfinished o → Unclosed limit l p lent o
+    unclosed o' fits op y (isUnfinished u) e =
         let same : o' ≡ o = ap opened e in
-        rw (← same) (record { enough = l; opens = op; none-decides = u })
-    unclosed o' l op y (isGood k f h) e = other-row y (unfinished o) e (λ z. omega arith)
-    unclosed o' l op y (isFaulty k f) e = other-row y (unfinished o) e (λ z. omega arith)
+        rw (← same) (record { enough = fits; opens = op; none-decides = u })
+    unclosed o' fits op y (isGood k f h) e = other-row y (unfinished o) e (λ z. omega arith)
+    unclosed o' fits op y (isFaulty k f) e = other-row y (unfinished o) e (λ z. omega arith)
 
-    there : (x : Outcome) → Comes ws p lent x → x ≡ unfinished o → Unclosed ws p lent o
+    there : (x : Outcome) → Comes limit l p lent x → x ≡ unfinished o → Unclosed limit l p lent o
     there x (isPast h) e = other-row x (unfinished o) e (λ z. omega arith)
-    there x (isShort h l) e = other-row x (unfinished o) e (λ z. omega arith)
-    there x (isQuiet h l) e = other-row x (unfinished o) e (λ z. omega arith)
-    there x (isOpened {o = o'} h l op) e = unclosed o' l op (decided ws o') (decision ws o') e
+    there x (isShort h fits) e = other-row x (unfinished o) e (λ z. omega arith)
+    there x (isQuiet h fits) e = other-row x (unfinished o) e (λ z. omega arith)
+    there x (isOpened {o = o'} h fits op) e = unclosed o' fits op (decided limit l o') (decision limit l o') e
 
-    decided-so : Undecided ws o (length ws) → (y : Outcome) → Decision ws o y → y ≡ unfinished o
+    decided-so : Undecided limit l o (l .count) → (y : Outcome) → Decision limit l o y → y ≡ unfinished o
     decided-so u y (isUnfinished v) = refl
     decided-so u y (isGood {k} e f h) = never h (u .no-end k (e .behind) (e .inside))
     decided-so u y (isFaulty {k} e f) = absurd (omega (arith, u .no-fault k (e .behind) (e .inside)))
 
-    back : Unclosed ws p lent o → reading ws p lent ≡ unfinished o
-    back c = opened-reading ws p lent o (c .enough) (c .opens) ∙ decided-so (c .none-decides) (decided ws o) (decision ws o)
+    back : Unclosed limit l p lent o → readOn limit l p lent ≡ unfinished o
+    back c = opened-reading limit l p lent o (c .enough) (c .opens) ∙ decided-so (c .none-decides) (decided limit l o) (decision limit l o)

@@ -2,12 +2,13 @@
 -- carries, whatever its widths are inside the receiving windows.
 use Prim.Native.Nat.{ℕ, _+_, _-_, _%_, _≤_, _<_}
 use mathlib.Core.Path.{_≡_, refl, sym, ap, _∙_}
-use mathlib.Core.Bool.{true, false}
-use mathlib.Core.List.{List, [], _∷_, _++_}
+use mathlib.Core.Bool.{Bool, true, false}
+use mathlib.Core.List.{List, [], _∷_, _++_, map, append-nil, append-assoc}
 use native.Mathlib.Omega.{arith}
-use lib.ListN.{length, getD, length-append}
+use lib.ListN.{length, getD, length-append, length-map}
 use borrow.Author.Tests.{eq-eqb, ne-eqb, le-leb}
-use Rattle.symbol.specs.declared.Symbol.the-variants.{Eod}
+use Rattle.symbol.specs.declared.Symbol.{Symbol}
+use Rattle.symbol.specs.declared.Symbol.the-variants.{Bit0, Bit1, Eod}
 use Rattle.symbol.specs.Clocks.{nominalClock}
 use Rattle.symbol.specs.Classes.{endOf}
 use Rattle.checkbyte.specs.Register.{withCheck}
@@ -15,20 +16,20 @@ use Rattle.checkbyte.specs.Differ.{Bytes}
 use Rattle.frame.specs.declared.Response.{Response}
 use Rattle.frame.specs.declared.Response.the-variants.{Without, Plain, Checked}
 use Rattle.frame.specs.Bits.{bytes, bitsOf}
-use Rattle.frame.specs.Line.{symbolAt, endAt}
-use Rattle.frame.specs.Standing.{plain, checked, Standing, atSof, inMain, inResponse, stands}
-use Rattle.frame.specs.Faults.{facts, mainBytes, responseBytes, mostBytes, fault}
-use Rattle.frame.specs.Reading.{good, reading}
-use Rattle.frame.specs.Writing.{mostWords, responseSent, badMessage}
+use Rattle.frame.specs.Signs.{Sign, sof, bit, shut}
+use Rattle.frame.specs.Line.{symbolAt, signOf, Line, single, endAt}
+use Rattle.frame.specs.Standing.{plain, checked, Standing, atSof, inMain, inResponse}
+use Rattle.frame.specs.Faults.{mostBytes, fault}
+use Rattle.frame.specs.Reading.{good, closed, readOn, reading}
+use Rattle.frame.specs.Writing.{mostWords, frameSent, badMessage}
 use Rattle.frame.specs.WidthLaws.{admitted-words}
-use Rattle.frame.specs.StandingLaws.{stands-sof}
-use Rattle.frame.specs.Decided.{Earliest, undecided, decides-good}
 use Rattle.frame.specs.Outcomes.{Opens, opened-reading}
 use Rattle.frame.specs.ByteLaws.{bytes-back, bits-length, with-bytes}
-use Rattle.frame.specs.Waves.{byteSymbols, responseSymbols, frameSymbols, FrameWave}
-use Rattle.frame.specs.WaveLaws.{Stand, Carry, stands-behind, stand-append, wave-carries, wave-length, end-symbol}
-use Rattle.frame.specs.Passing.{Passes, stay, pass, passes-append, Passed, passed}
-use Rattle.frame.specs.Parts.{bits-pass, main-grows, response-grows, Complete, shut-fine, end-fine, sealed-complete, plain-complete}
+use Rattle.frame.specs.Waves.{bitSymbols, byteSymbols, responseSymbols, frameSymbols, FrameWave}
+use Rattle.frame.specs.WaveLaws.{Stand, Carry, Shows, stands-behind, stand-append, wave-carries, wave-length, bit-shown, carry-shows, shows-append}
+use Rattle.frame.specs.ShownLaws.{end-width, end-shuts}
+use Rattle.frame.specs.Passing.{Closes, on, passes-closes, decides-it}
+use Rattle.frame.specs.Parts.{Complete, ChecksRight, sealed-complete, sealed-right, plain-complete, spells, part-closes, part-passes}
 use Rattle.frame.specs.Admitted.{Admitted, admitted}
 use Rattle.frame.specs.WordLaws.{bytes-length, words-count}
 
@@ -40,40 +41,65 @@ lastStanding main Without rs = inMain (bitsOf (withCheck main))
 lastStanding main Plain rs = inResponse plain (bitsOf (withCheck main)) (bitsOf rs)
 lastStanding main Checked rs = inResponse checked (bitsOf (withCheck main)) (bitsOf (withCheck rs))
 
+-- what a frame shows, from its SOF to its closing end
+abbrev frameSigns : List ℕ → Response → List ℕ → List Sign
+frameSigns main Without rs = sof ∷ (map bit (bitsOf (withCheck main)) ++ (shut false ∷ []))
+frameSigns main Plain rs =
+    sof ∷ ((map bit (bitsOf (withCheck main)) ++ (shut true ∷ [])) ++ (bit true ∷ (map bit (bitsOf rs) ++ (shut false ∷ []))))
+frameSigns main Checked rs =
+    sof ∷ ((map bit (bitsOf (withCheck main)) ++ (shut true ∷ [])) ++ (bit false ∷ (map bit (bitsOf (withCheck rs)) ++ (shut false ∷ []))))
+
+bits-shown : (bits : List Bool) (rest : List Symbol) → map signOf (bitSymbols bits ++ rest) ≡ map bit bits ++ map signOf rest
+bits-shown [] rest = refl
+bits-shown (b ∷ bits) rest = rw (bit-shown b, bits-shown bits rest)
+
+all-shown : (bits : List Bool) → map signOf (bitSymbols bits) ≡ map bit bits
+all-shown [] = refl
+all-shown (b ∷ bits) = rw (bit-shown b, all-shown bits)
+
+-- what shuts the main part goes with it
+around : (m : List Sign) (b : Bool) (r : List Sign) → (m ++ (shut true ∷ bit b ∷ r)) ++ (shut false ∷ []) ≡ (m ++ (shut true ∷ [])) ++ (bit b ∷ (r ++ (shut false ∷ [])))
+around m b r = append-assoc m (shut true ∷ bit b ∷ r) (shut false ∷ []) ∙ sym (append-assoc m (shut true ∷ []) (bit b ∷ (r ++ (shut false ∷ []))))
+
+-- its symbols and the closing end show that
+frame-shows : (main : List ℕ) (kind : Response) (rs : List ℕ) → map signOf (frameSymbols main kind rs) ++ (shut false ∷ []) ≡ frameSigns main kind rs
+frame-shows main Without rs = rw (bits-shown (bitsOf (withCheck main)) [], append-nil (map bit (bitsOf (withCheck main))))
+frame-shows main Plain rs =
+    ap (λ (x : List Sign). sof ∷ x)
+    (ap (λ (x : List Sign). x ++ (shut false ∷ [])) (bits-shown (bitsOf (withCheck main)) (Eod ∷ Bit1 ∷ byteSymbols rs) ∙ ap (λ (x : List Sign). map bit (bitsOf (withCheck main)) ++ (shut true ∷ bit true ∷ x)) (all-shown (bitsOf rs)))
+    ∙ around (map bit (bitsOf (withCheck main))) true (map bit (bitsOf rs)))
+frame-shows main Checked rs =
+    ap (λ (x : List Sign). sof ∷ x)
+    (ap (λ (x : List Sign). x ++ (shut false ∷ [])) (bits-shown (bitsOf (withCheck main)) (Eod ∷ Bit0 ∷ byteSymbols (withCheck rs)) ∙ ap (λ (x : List Sign). map bit (bitsOf (withCheck main)) ++ (shut true ∷ bit false ∷ x)) (all-shown (bitsOf (withCheck rs))))
+    ∙ around (map bit (bitsOf (withCheck main))) false (map bit (bitsOf (withCheck rs))))
+
 module _ (main : List ℕ) (rs : List ℕ) (mb : Bytes main) (rb : Bytes rs) where
   main-complete : 1 ≤ length main → Complete (inMain (bitsOf (withCheck main)))
   main-complete h = sealed-complete main (inMain (bitsOf (withCheck main))) mb h refl (omega arith)
 
-  main-passes : length (withCheck main) ≤ 12 → Passes (inMain []) (byteSymbols (withCheck main)) (inMain (bitsOf (withCheck main)))
-  main-passes h = bits-pass main-grows [] (bitsOf (withCheck main)) (omega (arith, bits-length (withCheck main)))
+  main-right : ChecksRight (inMain (bitsOf (withCheck main)))
+  main-right = sealed-right main (inMain (bitsOf (withCheck main))) mb refl
 
-  -- an EOD, a normalization bit, and the bytes of a response
-  eod-passes : 1 ≤ length main → fault (inMain (bitsOf (withCheck main))) Eod ≡ 0
-  eod-passes h = shut-fine (inMain (bitsOf (withCheck main))) Eod refl refl (main-complete h)
-
-  response-passes : (kind : Response) → Admitted main kind rs → Passes (inMain (bitsOf (withCheck main))) (responseSymbols kind rs) (lastStanding main kind rs)
+  -- Nothing in an admitted message's frame is at fault, and its closing end closes it.
+  frame-closes : (kind : Response) → Admitted main kind rs → Closes mostBytes atSof (frameSigns main kind rs) (lastStanding main kind rs)
   unfolding fault
-  response-passes Without a = stay
-  response-passes Plain a =
-      pass (eod-passes (a .some-main)) refl (pass refl refl
-      (bits-pass (response-grows plain (bitsOf (withCheck main))) [] (bitsOf rs) (omega (arith, a .at-most, bits-length (withCheck main), bits-length rs))))
-  response-passes Checked a =
-      pass (eod-passes (a .some-main)) refl (pass refl refl
-      (bits-pass (response-grows checked (bitsOf (withCheck main))) [] (bitsOf (withCheck rs)) (omega (arith, a .at-most, bits-length (withCheck main), bits-length (withCheck rs)))))
-
-  -- Nothing in an admitted message's frame is at fault.
-  frame-passes : (kind : Response) → Admitted main kind rs → Passes atSof (frameSymbols main kind rs) (lastStanding main kind rs)
-  unfolding fault
-  frame-passes kind a = pass refl refl (passes-append (main-passes (omega (arith, a .at-most))) (response-passes kind a))
-
-  frame-complete : (kind : Response) → Admitted main kind rs → Complete (lastStanding main kind rs)
-  frame-complete Without a = main-complete (a .some-main)
-  frame-complete Plain a = plain-complete (bitsOf (withCheck main)) rs rb (a .some-response)
-  frame-complete Checked a = sealed-complete rs (lastStanding main Checked rs) rb (a .some-response) refl (omega arith)
+  frame-closes Without a =
+      on refl refl (part-closes (spells false (bitsOf (withCheck main))) (inMain []) refl (omega (arith, a .at-most, bits-length (withCheck main))) (main-complete (a .some-main)) main-right)
+  frame-closes Plain a =
+      on refl refl
+      (passes-closes (part-passes (spells true (bitsOf (withCheck main))) [] (omega (arith, a .at-most, bits-length (withCheck main))) (main-complete (a .some-main)) main-right)
+      (on refl refl
+      (part-closes (spells false (bitsOf rs)) (inResponse plain (bitsOf (withCheck main)) []) refl (omega (arith, a .at-most, bits-length (withCheck main), bits-length rs))
+      (plain-complete (bitsOf (withCheck main)) rs rb (a .some-response)) refl)))
+  frame-closes Checked a =
+      on refl refl
+      (passes-closes (part-passes (spells true (bitsOf (withCheck main))) [] (omega (arith, a .at-most, bits-length (withCheck main))) (main-complete (a .some-main)) main-right)
+      (on refl refl
+      (part-closes (spells false (bitsOf (withCheck rs))) (inResponse checked (bitsOf (withCheck main)) []) refl (omega (arith, a .at-most, bits-length (withCheck main), bits-length (withCheck rs)))
+      (sealed-complete rs (lastStanding main Checked rs) rb (a .some-response) refl (omega arith)) (sealed-right rs (lastStanding main Checked rs) rb refl))))
 
   -- What stands before its closing end is the message.
-  frame-says : (kind : Response) (o k : ℕ) → good (mainBytes (lastStanding main kind rs)) (responseBytes (lastStanding main kind rs)) (facts (lastStanding main kind rs) .answered) o k
-      ≡ good (withCheck main) (responseSent kind rs) kind o k
+  frame-says : (kind : Response) (o k : ℕ) → closed (lastStanding main kind rs) o k ≡ frameSent main kind rs o k
   unfolding bytes
   frame-says Without o k = rw (bytes-back (withCheck main) (with-bytes main mb))
   frame-says Plain o k = rw (bytes-back (withCheck main) (with-bytes main mb), bytes-back rs rb)
@@ -81,29 +107,31 @@ module _ (main : List ℕ) (rs : List ℕ) (mb : Bytes main) (rb : Bytes rs) whe
 
   -- ## On the line
 
-  -- A recording that opens at o, carries an admitted message's symbols behind that, and then has an end, at k, is read as that
+  -- A line that opens at o and shows an admitted message's frame after that, up to its closing end at k, is read as that message.
+  pub reads-signs : (kind : Response) (l : Line) (p o k lent : ℕ) → badMessage main kind rs ≡ false → mostBytes ≤ lent → Opens l p o
+      → Shows l (o + 1) (frameSigns main kind rs) → o + length (frameSigns main kind rs) ≡ k → k < l .count
+      → readOn mostBytes l p lent ≡ good (frameSent main kind rs o k)
+  reads-signs kind l p o k lent adm enough op c n inside =
+      opened-reading mostBytes l p lent o enough op
+      ∙ decides-it mostBytes l o (frame-closes kind (admitted main kind rs .0 adm)) c (omega (arith, n, inside))
+      ∙ ap good (ap (λ (x : ℕ). closed (lastStanding main kind rs) o x) n ∙ frame-says kind o k)
+
+  -- A recording that opens at o, carries an admitted message's symbols after that, and then has an end, at k, is read as that
   -- message.
-  pub reads-symbols : (kind : Response) (ws : List ℕ) (p o k lent : ℕ) → badMessage main kind rs ≡ false → mostBytes ≤ lent → Opens ws p o
-      → Carry ws (o + 1) (frameSymbols main kind rs) → o + 1 + length (frameSymbols main kind rs) ≡ k → endAt ws k ≡ true → k < length ws
-      → reading ws p lent ≡ good (withCheck main) (responseSent kind rs) kind o k
+  pub reads-symbols : (kind : Response) (ws : List ℕ) (p o k lent : ℕ) → badMessage main kind rs ≡ false → mostBytes ≤ lent → Opens (single ws) p o
+      → Carry ws (o + 1) (frameSymbols main kind rs) → o + 1 + length (frameSymbols main kind rs) ≡ k → endAt (single ws) k ≡ true → k < length ws
+      → reading ws p lent ≡ good (frameSent main kind rs o k)
   reads-symbols kind ws p o k lent adm enough op c n e inside =
-      opened-reading ws p lent o enough op ∙ decides-good ws o k earliest no-fault e ∙ rw stands-last (frame-says kind o k)
+      reads-signs kind (single ws) p o k lent adm enough op shown (ap (λ (x : List Sign). o + length x) (sym (frame-shows main kind rs)) ∙ omega (arith, n, length-append (map signOf (frameSymbols main kind rs)) (shut false ∷ []), length-map (frameSymbols main kind rs) signOf)) inside
     where
-      a : Admitted main kind rs
-      a = admitted main kind rs .0 adm
+      last : o + 1 + length (map signOf (frameSymbols main kind rs)) ≡ k
+      last = omega (arith, n, length-map (frameSymbols main kind rs) signOf)
 
-      way : Passed ws o (o + 1) (length (frameSymbols main kind rs)) (lastStanding main kind rs)
-      way = passed ws o (o + 1) (frame-passes kind a) (omega arith) (stands-sof ws o) c
-
-      stands-last : stands ws o k ≡ lastStanding main kind rs
-      stands-last = rw (← n) (way .reached)
-
-      earliest : Earliest ws o k
-      earliest =
-          record { behind = omega arith; inside = inside; before = undecided ws o k (λ j x y. way .on-the-way j (omega arith) (omega arith)) }
-
-      no-fault : fault (stands ws o k) (symbolAt ws k) ≡ 0
-      no-fault = rw stands-last (end-fine (lastStanding main kind rs) (symbolAt ws k) (sym (end-symbol ws k) ∙ e) (frame-complete kind a))
+      shown : Shows (single ws) (o + 1) (frameSigns main kind rs)
+      shown =
+          rw (← (frame-shows main kind rs))
+          (shows-append (single ws) (o + 1) (map signOf (frameSymbols main kind rs)) (shut false ∷ []) (carry-shows ws (o + 1) (frameSymbols main kind rs) c)
+          (rw last (end-shuts (symbolAt ws k) e, tt)))
 
 -- ## Waves
 
@@ -117,9 +145,9 @@ frame-odd : (main : List ℕ) (kind : Response) (rs : List ℕ) → length (fram
 frame-odd main kind rs =
     omega (arith, length-append (byteSymbols (withCheck main)) (responseSymbols kind rs), bytes-length (withCheck main), response-even kind rs)
 
-long-end : (ws : List ℕ) (k : ℕ) → k % 2 ≡ 0 → 240 ≤ getD ws k 0 → endAt ws k ≡ true
-unfolding endAt endOf
-long-end ws k h w = rw (ne-eqb (k % 2) 1 (λ e. omega arith), le-leb 240 (getD ws k 0) w)
+long-end : (ws : List ℕ) (k : ℕ) → k % 2 ≡ 0 → 240 ≤ getD ws k 0 → endAt (single ws) k ≡ true
+unfolding endOf
+long-end ws k h w = end-width ws k ∙ rw (ne-eqb (k % 2) 1 (λ e. omega arith), le-leb 240 (getD ws k 0) w)
 
 -- A frame's wave has as many words as the message has symbols, and the two ends: at most 101.
 pub wave-words : {main : List ℕ} {kind : Response} {rs ws : List ℕ} → FrameWave main kind rs ws → length ws ≡ length (frameSymbols main kind rs) + 2
@@ -132,7 +160,7 @@ wave-few {main} {kind} {rs} f h = omega (arith, wave-words f, words-count nomina
 -- A wave is read wherever its words stand in a recording, beginning passive.
 reads-standing : (line ws main : List ℕ) (kind : Response) (rs : List ℕ) (o lent : ℕ) → FrameWave main kind rs ws → Stand line o ws
     → o + length ws ≤ length line → badMessage main kind rs ≡ false → Bytes main → Bytes rs → o % 2 ≡ 0 → mostBytes ≤ lent
-    → reading line o lent ≡ good (withCheck main) (responseSent kind rs) kind o (o + length ws - 1)
+    → reading line o lent ≡ good (frameSent main kind rs o (o + length ws - 1))
 reads-standing line ws main kind rs o lent f st fits adm mb rb even enough =
     reads-symbols main rs mb rb kind line o o (o + length ws - 1) lent adm enough opens carries place end inside
   where
@@ -148,7 +176,7 @@ reads-standing line ws main kind rs o lent f st fits adm mb rb even enough =
     carries : Carry line (o + 1) (frameSymbols main kind rs)
     carries = wave-carries line (o + 1) (f .carries) (eq-eqb ((o + 1) % 2) 1 (omega arith)) (inner .0)
 
-    end : endAt line (o + length ws - 1) ≡ true
+    end : endAt (single line) (o + length ws - 1) ≡ true
     end =
         let here : o + 1 + length (f .inner) ≡ o + length ws - 1 = omega (arith, wave-words f, wave-length (f .carries)) in
         long-end line (o + length ws - 1) (omega (arith, wave-words f, frame-odd main kind rs)) (rw (← here, inner .1 .0) (f .closes))
@@ -156,7 +184,7 @@ reads-standing line ws main kind rs o lent f st fits adm mb rb even enough =
     inside : o + length ws - 1 < length line
     inside = omega (arith, wave-words f)
 
-    opens : Opens line o o
+    opens : Opens (single line) o o
     opens =
         record {
           from = omega arith;
@@ -171,7 +199,7 @@ reads-standing line ws main kind rs o lent f st fits adm mb rb even enough =
 pub reads-wave : (before ws behind main : List ℕ) (kind : Response) (rs : List ℕ) (lent : ℕ) → FrameWave main kind rs ws
     → badMessage main kind rs ≡ false → Bytes main → Bytes rs → length before % 2 ≡ 0 → mostBytes ≤ lent
     → reading (before ++ (ws ++ behind)) (length before) lent
-    ≡ good (withCheck main) (responseSent kind rs) kind (length before) (length before + length ws - 1)
+    ≡ good (frameSent main kind rs (length before) (length before + length ws - 1))
 reads-wave before ws behind main kind rs lent f adm mb rb even enough =
     reads-standing (before ++ (ws ++ behind)) ws main kind rs (length before) lent f (stands-behind before ws behind)
     (simp length-append (omega arith)) adm mb rb even enough

@@ -13,12 +13,13 @@ use Rattle.frame.specs.declared.Fault.{Fault}
 use Rattle.frame.specs.declared.Fault.the-variants.{Noise, NoSof, Break, Stuck, LateSof, SplitByte, FewBytes, WrongCheck, EodAfterResponse, ThirteenthByte}
 use Rattle.frame.specs.declared.Reading.{Reading}
 use Rattle.frame.specs.declared.Reading.the-variants.{Frame, Quiet, Unfinished, Faulty, PastRecording, FewLentBytes}
-use Rattle.frame.specs.Line.{symbolAt}
+use Rattle.frame.specs.Line.{symbolAt, single}
 use Rattle.frame.specs.Standing.{stands}
 use Rattle.frame.specs.Faults.{mostBytes}
 use Rattle.frame.specs.Reading.{Outcome, good, quiet, unfinished, faulty, refused, decided, reading}
 use Rattle.frame.specs.Answers.{Told, told, tells, written, ReadPromise}
 use Rattle.frame.specs.Refusals.{TurnedAway}
+use Rattle.frame.specs.ShownLaws.{wrong-small}
 use Rattle.frame.specs.RowLaws.{fault-number}
 use Rattle.frame.specs.Decided.{Decision, isUnfinished, isGood, isFaulty, decision}
 use Rattle.frame.specs.Outcomes.{Comes, isPast, isShort, isQuiet, isOpened, comes}
@@ -75,27 +76,27 @@ read-settled {r} {s} a b = (told-once r s (settled (a .tells-it) (b .tells-it)),
 
 -- ## The refusals
 
-decided-number : (ws : List ℕ) (o : ℕ) (x : Outcome) → Decision ws o x → tells x .number ≤ 20
+decided-number : (ws : List ℕ) (o : ℕ) (x : Outcome) → Decision mostBytes (single ws) o x → tells x .number ≤ 20
 decided-number ws o x (isUnfinished u) = omega arith
 decided-number ws o x (isGood e f h) = omega arith
-decided-number ws o x (isFaulty {k} e h) = fault-number (stands ws o k) (symbolAt ws k)
+decided-number ws o x (isFaulty {k} e h) = fault-number mostBytes (stands (single ws) o k) (single ws .shows k) (wrong-small (symbolAt ws k))
 
 -- each refusal's number and its rule
 record Numbered (ws : List ℕ) (p lent : ℕ) (x : Outcome) : Type 0 where
   past : (tells x .number ≡ 31) ↔ (length ws < p)
   short : (tells x .number ≡ 32) ↔ ((p ≤ length ws) × (lent < mostBytes))
 
-numbered : (ws : List ℕ) (p lent : ℕ) (x : Outcome) → Comes ws p lent x → Numbered ws p lent x
+numbered : (ws : List ℕ) (p lent : ℕ) (x : Outcome) → Comes mostBytes (single ws) p lent x → Numbered ws p lent x
 numbered ws p lent x (isPast h) = record { past = (λ e. h, λ r. refl); short = (λ e. absurd (omega arith), λ r. absurd (omega arith)) }
 numbered ws p lent x (isShort h l) = record { past = (λ e. absurd (omega arith), λ r. absurd (omega arith)); short = (λ e. (h, l), λ r. refl) }
 numbered ws p lent x (isQuiet h l) =
     record { past = (λ e. absurd (omega arith), λ r. absurd (omega arith)); short = (λ e. absurd (omega arith), λ r. absurd (omega arith)) }
 numbered ws p lent x (isOpened {o} h l op) =
-    let n : tells (decided ws o) .number ≤ 20 = decided-number ws o (decided ws o) (decision ws o) in
+    let n : tells (decided mostBytes (single ws) o) .number ≤ 20 = decided-number ws o (decided mostBytes (single ws) o) (decision mostBytes (single ws) o) in
     record { past = (λ e. absurd (omega arith), λ r. absurd (omega arith)); short = (λ e. absurd (omega arith), λ r. absurd (omega arith)) }
 
 unwritten : (x : Outcome) → 0 < tells x .number → written x ≡ []
-unwritten (good main response kind opening next) h = absurd (omega arith)
+unwritten (good f) h = absurd (omega arith)
 unwritten (quiet next) h = refl
 unwritten (unfinished opening) h = refl
 unwritten (faulty number next) h = refl
@@ -106,7 +107,7 @@ module _ {ws : List ℕ} {p : ℕ} {entry exit : List ℕ} {r : Reading} (q : Re
   its-number = ap (λ (t : Told). t .number) (q .tells-it)
 
   rules : Numbered ws p (length entry) (reading ws p (length entry))
-  rules = numbered ws p (length entry) (reading ws p (length entry)) (comes ws p (length entry))
+  rules = numbered ws p (length entry) (reading ws p (length entry)) (comes mostBytes (single ws) p (length entry))
 
   -- "On any other answer nothing is written."
   pub nothing-written : 0 < told r .number → exit ≡ entry

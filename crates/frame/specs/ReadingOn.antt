@@ -1,16 +1,15 @@
 -- Reading on: each answer that is a frame or a fault has a next position further on, so that reading on from next positions
 -- ends; and the end that closes a frame opens the next one.
 use Prim.Native.Nat.{ℕ, zero, suc, _+_, _-_, _≤_, _<_}
-use mathlib.Core.Path.{_≡_, refl, ap}
+use mathlib.Core.Path.{_≡_, refl, sym, ap, subst}
 use mathlib.Core.Bool.{Bool, true, false, cond}
-use mathlib.Core.List.{List, [], _∷_}
+use mathlib.Core.List.{List, [], _∷_, _++_, append-assoc}
 use mathlib.Core.Logic.{_⊎_, inl, inr}
 use native.Mathlib.Omega.{arith}
 use lib.ListN.{length}
 use Rattle.laws.specs.Tests.{never}
-use Rattle.frame.specs.declared.Response.{Response}
-use Rattle.frame.specs.Line.{endAt, at, opening}
-use Rattle.frame.specs.Reading.{Outcome, good, decided, reading}
+use Rattle.frame.specs.Line.{Line, single, endAt, at, opening}
+use Rattle.frame.specs.Reading.{Good, Outcome, good, decided, readOn}
 use Rattle.frame.specs.Faults.{mostBytes}
 use Rattle.frame.specs.Answers.{tells}
 use Rattle.frame.specs.FirstLaws.{at-first}
@@ -23,91 +22,134 @@ use Rattle.frame.specs.Outcomes.{Comes, isPast, isShort, isQuiet, isOpen
 abbrev pub nextOf : Outcome → ℕ
 nextOf x = tells x .next
 
-decided-on : (ws : List ℕ) (o : ℕ) (x : Outcome) → Decision ws o x → goesOn x ≡ true → (o < nextOf x) × (nextOf x < length ws)
-decided-on ws o x (isUnfinished u) g = never g refl
-decided-on ws o x (isGood e f h) g = (e .behind, e .inside)
-decided-on ws o x (isFaulty e h) g = (e .behind, e .inside)
+decided-on : (limit : ℕ) (l : Line) (o : ℕ) (x : Outcome) → Decision limit l o x → goesOn x ≡ true → (o < nextOf x) × (nextOf x < l .count)
+decided-on limit l o x (isUnfinished u) g = never g refl
+decided-on limit l o x (isGood e f h) g = (e .behind, e .inside)
+decided-on limit l o x (isFaulty e h) g = (e .behind, e .inside)
 
 -- The next position of a frame or a fault lies behind the position that was read from, and in the recording.
-pub progress : (ws : List ℕ) (p lent : ℕ) → goesOn (reading ws p lent) ≡ true
-    → (p < nextOf (reading ws p lent)) × (nextOf (reading ws p lent) < length ws)
-progress ws p lent g =
-    let r : OpenedBy ws p lent (reading ws p lent) = opened-by ws p lent (reading ws p lent) g refl in
-    let d : (r .opening < nextOf (reading ws p lent)) × (nextOf (reading ws p lent) < length ws) = decided-on ws (r .opening) (reading ws p lent) (rw (r .is-decided) at (decision ws (r .opening))) g in
+pub progress : (limit : ℕ) (l : Line) (p lent : ℕ) → goesOn (readOn limit l p lent) ≡ true
+    → (p < nextOf (readOn limit l p lent)) × (nextOf (readOn limit l p lent) < l .count)
+progress limit l p lent g =
+    let r : OpenedBy limit l p lent (readOn limit l p lent) = opened-by limit l p lent (readOn limit l p lent) g refl in
+    let d : (r .opening < nextOf (readOn limit l p lent)) × (nextOf (readOn limit l p lent) < l .count) = decided-on limit l (r .opening) (readOn limit l p lent) (rw (r .is-decided) at (decision limit l (r .opening))) g in
     (omega (arith, r .opens .from, d .0), d .1)
 
 -- ## Reading on
 
--- The answers from p on, each read from the next position of the one before, up to one that is no frame and no fault.
-pub data ReadsOn (ws : List ℕ) (lent : ℕ) : ℕ → List Outcome → Type 0 where
-  last : {p : ℕ} → goesOn (reading ws p lent) ≡ false → ReadsOn ws lent p (reading ws p lent ∷ [])
-  more : {p : ℕ} {xs : List Outcome} → goesOn (reading ws p lent) ≡ true → ReadsOn ws lent (nextOf (reading ws p lent)) xs
-      → ReadsOn ws lent p (reading ws p lent ∷ xs)
+-- How one reads on: from a state the answer there, the state after it, and how much is left to read.
+pub record Onward (S : Type 0) : Type 0 where
+  pub answer : S → Outcome
+  pub after : S → S
+  pub left : S → ℕ
+  pub less : (s : S) → goesOn (answer s) ≡ true → left (after s) < left s
+
+-- The answers from a state on, each from the state after the one before, up to one that is no frame and no fault.
+pub data ReadsFrom {S : Type 0} (w : Onward S) : S → List Outcome → Type 0 where
+  last : {s : S} → goesOn (w .answer s) ≡ false → ReadsFrom w s (w .answer s ∷ [])
+  more : {s : S} {xs : List Outcome} → goesOn (w .answer s) ≡ true → ReadsFrom w (w .after s) xs → ReadsFrom w s (w .answer s ∷ xs)
 
 -- the same list computed, with a bound on its length
-unfoldable pub answersIn : ℕ → List ℕ → ℕ → ℕ → List Outcome
-answersIn zero ws lent p = []
-answersIn (suc n) ws lent p =
-    let rest = answersIn n ws lent (nextOf (reading ws p lent)) in
-    reading ws p lent ∷ cond (goesOn (reading ws p lent)) rest []
+unfoldable pub answersBy : {S : Type 0} → ℕ → Onward S → S → List Outcome
+answersBy zero w s = []
+answersBy (suc n) w s = let rest = answersBy n w (w .after s) in w .answer s ∷ cond (goesOn (w .answer s)) rest []
 
--- No recording is read on from for ever: so many answers are enough as there are intervals from p on, and one.
-pub reads-on : (n : ℕ) (ws : List ℕ) (lent p : ℕ) → length ws < p + n → 0 < n → ReadsOn ws lent p (answersIn n ws lent p)
-unfolding answersIn
-reads-on zero ws lent p h k = absurd (omega arith)
-reads-on (suc n) ws lent p h k = go (goesOn (reading ws p lent)) refl (reads-on n ws lent (nextOf (reading ws p lent)))
+-- Frames and faults from a state on, as far as they are told, and the state after them.
+pub data Reaches {S : Type 0} (w : Onward S) (from : S) : S → List Outcome → Type 0 where
+  none-yet : Reaches w from from []
+  one-more : {s : S} {xs : List Outcome} → Reaches w from s xs → goesOn (w .answer s) ≡ true
+      → Reaches w from (w .after s) (xs ++ (w .answer s ∷ []))
+
+-- Nobody reads on for ever: one answer more is enough than is left to read.
+pub reads-by : {S : Type 0} (n : ℕ) (w : Onward S) (s : S) → w .left s < n → ReadsFrom w s (answersBy n w s)
+unfolding answersBy
+reads-by zero w s h = absurd (omega arith)
+reads-by {S} (suc n) w s h = go (goesOn (w .answer s)) refl (reads-by n w (w .after s))
   where
-    go : (b : Bool) → goesOn (reading ws p lent) ≡ b
-        → (length ws < nextOf (reading ws p lent) + n → 0 < n → ReadsOn ws lent (nextOf (reading ws p lent)) (answersIn n ws lent (nextOf (reading ws p lent))))
-        → ReadsOn ws lent p (reading ws p lent ∷ cond b (answersIn n ws lent (nextOf (reading ws p lent))) [])
-    go true e ih =
-        let m = progress ws p lent e in
-        more e (ih (omega arith) (omega arith))
+    go : (b : Bool) → goesOn (w .answer s) ≡ b → (w .left (w .after s) < n → ReadsFrom w (w .after s) (answersBy n w (w .after s)))
+        → ReadsFrom w s (w .answer s ∷ cond b (answersBy n w (w .after s)) [])
+    go true e ih = more e (ih (omega (arith, w .less s e)))
     go false e ih = last e
 
--- From a position there is one list of answers, however one comes by it.
-pub reads-once : {ws : List ℕ} {lent p : ℕ} {xs ys : List Outcome} → ReadsOn ws lent p xs → ReadsOn ws lent p ys → xs ≡ ys
+-- From a state there is one list of answers, however one comes by it.
+pub reads-once : {S : Type 0} {w : Onward S} {s : S} {xs ys : List Outcome} → ReadsFrom w s xs → ReadsFrom w s ys → xs ≡ ys
 reads-once (last e) (last f) = refl
 reads-once (last e) (more f r) = never f e
 reads-once (more e r) (last f) = never e f
-reads-once {ws} {lent} (more {p} e r) (more f s) = ap (λ (l : List Outcome). reading ws p lent ∷ l) (reads-once r s)
+reads-once {w = w} (more {s} e r) (more f t) = ap (λ (x : List Outcome). w .answer s ∷ x) (reads-once r t)
+
+-- There are at most as many answers as are left to read, and one.
+pub few-answers : {S : Type 0} {w : Onward S} {s : S} {xs : List Outcome} → ReadsFrom w s xs → length xs ≤ w .left s + 1
+few-answers (last e) = omega arith
+few-answers {w = w} (more {s} e r) = omega (arith, few-answers r, w .less s e)
+
+-- The frames and faults told so far, and what is read on from there, are what is read from the start.
+pub reads-through : {S : Type 0} {w : Onward S} {from s : S} {xs ys : List Outcome} → Reaches w from s xs → ReadsFrom w s ys → ReadsFrom w from (xs ++ ys)
+reads-through none-yet r = r
+reads-through {w = w} {from = from} {ys = ys} (one-more {s} {xs} q g) r =
+    subst (ReadsFrom w from) (sym (append-assoc xs (w .answer s ∷ []) ys)) (reads-through q (more g r))
+
+-- ## On a recording
+
+-- Each answer that reading goes on from leaves less to read.
+pub left-less : (limit : ℕ) (l : Line) (lent p : ℕ) → goesOn (readOn limit l p lent) ≡ true → l .count - nextOf (readOn limit l p lent) < l .count - p
+left-less limit l lent p g = let m = progress limit l p lent g in omega arith
+
+-- Reading on from position to position on a line.
+abbrev pub onLine : (limit : ℕ) → Line → (lent : ℕ) → Onward ℕ
+onLine limit l lent =
+    record {
+      answer = λ p. readOn limit l p lent;
+      after = λ p. nextOf (readOn limit l p lent);
+      left = λ p. l .count - p;
+      less = left-less limit l lent;
+    }
+
+-- The answers from p on in a recording of document 01, each read from the next position of the one before.
+abbrev pub ReadsOn : List ℕ → (lent p : ℕ) → List Outcome → Type 0
+ReadsOn ws lent p xs = ReadsFrom (onLine mostBytes (single ws) lent) p xs
+
+-- the same list computed, with a bound on its length
+unfoldable pub answersIn : ℕ → List ℕ → ℕ → ℕ → List Outcome
+answersIn n ws lent p = answersBy n (onLine mostBytes (single ws) lent) p
+
+-- So many answers are enough as there are intervals from p on, and one.
+pub reads-on : (n : ℕ) (ws : List ℕ) (lent p : ℕ) → length ws < p + n → 0 < n → ReadsOn ws lent p (answersIn n ws lent p)
+unfolding answersIn
+reads-on n ws lent p h k = reads-by n (onLine mostBytes (single ws) lent) p (omega arith)
 
 -- There are at most as many answers as intervals from p on, and one.
-pub reads-few : {ws : List ℕ} {lent p : ℕ} {xs : List Outcome} → p ≤ length ws → ReadsOn ws lent p xs → p + length xs ≤ length ws + 1
-reads-few h (last e) = omega arith
-reads-few {ws} {lent} h (more {p} e r) =
-    let m = progress ws p lent e in
-    omega (arith, reads-few (omega arith) r)
+pub reads-few : (ws : List ℕ) (lent : ℕ) {p : ℕ} {xs : List Outcome} → p ≤ length ws → ReadsOn ws lent p xs → p + length xs ≤ length ws + 1
+reads-few ws lent h r = omega (arith, few-answers r)
 
 -- Where reading on stops, with bytes enough lent and the position in the recording, it is quiet or unfinished: 1 or 2.
-pub stops : (ws : List ℕ) (p lent : ℕ) → p ≤ length ws → mostBytes ≤ lent → goesOn (reading ws p lent) ≡ false
-    → (tells (reading ws p lent) .number ≡ 1) ⊎ (tells (reading ws p lent) .number ≡ 2)
-stops ws p lent h l g = go (reading ws p lent) (comes ws p lent) g
+pub stops : (limit : ℕ) (l : Line) (p lent : ℕ) → p ≤ l .count → limit ≤ lent → goesOn (readOn limit l p lent) ≡ false
+    → (tells (readOn limit l p lent) .number ≡ 1) ⊎ (tells (readOn limit l p lent) .number ≡ 2)
+stops limit l p lent h fits g = go (readOn limit l p lent) (comes limit l p lent) g
   where
-    by : (o : ℕ) (x : Outcome) → Decision ws o x → goesOn x ≡ false → (tells x .number ≡ 1) ⊎ (tells x .number ≡ 2)
+    by : (o : ℕ) (x : Outcome) → Decision limit l o x → goesOn x ≡ false → (tells x .number ≡ 1) ⊎ (tells x .number ≡ 2)
     by o x (isUnfinished u) g = inr refl
     by o x (isGood e f n) g = never refl g
     by o x (isFaulty e n) g = never refl g
 
-    go : (x : Outcome) → Comes ws p lent x → goesOn x ≡ false → (tells x .number ≡ 1) ⊎ (tells x .number ≡ 2)
+    go : (x : Outcome) → Comes limit l p lent x → goesOn x ≡ false → (tells x .number ≡ 1) ⊎ (tells x .number ≡ 2)
     go x (isPast a) g = absurd (omega arith)
     go x (isShort a b) g = absurd (omega arith)
     go x (isQuiet a b) g = inl refl
-    go x (isOpened {o} a b op) g = by o (decided ws o) (decision ws o) g
+    go x (isOpened {o} a b op) g = by o (decided limit l o) (decision limit l o) g
 
 -- ## A closing end opens
 
 -- Reading from an end finds its opening there.
-pub end-opens : (ws : List ℕ) (k : ℕ) → endAt ws k ≡ true → k < length ws → opening ws k ≡ at k
+pub end-opens : (l : Line) (k : ℕ) → endAt l k ≡ true → k < l .count → opening l k ≡ at k
 unfolding opening
-end-opens ws k e h =
-    at-first (endAt ws) k (length ws - k) k
+end-opens l k e h =
+    at-first (endAt l) k (l .count - k) k
     (record { from = omega arith; before = omega arith; holds = e; none-earlier = λ j a b. absurd (omega arith) })
 
 -- "A closing end may thus open the next frame": from a good frame's next position the opening is that position itself.
-pub closing-opens : (ws : List ℕ) (p lent : ℕ) (main response : List ℕ) (kind : Response) (o k : ℕ)
-    → reading ws p lent ≡ good main response kind o k → opening ws k ≡ at k
-closing-opens ws p lent main response kind o k e =
-    let r : OpenedBy ws p lent (good main response kind o k) = opened-by ws p lent (good main response kind o k) refl e in
-    let g : GoodAt ws (r .opening) main response kind o k = good-at ws (r .opening) main response kind o k (r .is-decided) in
-    end-opens ws k (g .end) (g .earliest .inside)
+pub closing-opens : (limit : ℕ) (l : Line) (p lent : ℕ) (f : Good) → readOn limit l p lent ≡ good f → opening l (f .next) ≡ at (f .next)
+closing-opens limit l p lent f e =
+    let r : OpenedBy limit l p lent (good f) = opened-by limit l p lent (good f) refl e in
+    let g : GoodAt limit l (r .opening) f = good-at limit l (r .opening) f (r .is-decided) in
+    end-opens l (f .next) (g .end) (g .earliest .inside)

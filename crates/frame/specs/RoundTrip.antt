@@ -6,24 +6,25 @@ use native.Mathlib.Omega.{arith}
 use lib.ListN.{length}
 use Rattle.symbol.specs.Clocks.{nominalClock}
 use Rattle.symbol.specs.SendingLaws.{nominal-good}
-use Rattle.frame.specs.declared.Response.{Response}
 use Rattle.frame.specs.Faults.{mostBytes}
-use Rattle.frame.specs.Reading.{good, reading}
+use Rattle.frame.specs.Reading.{Good, good, reading}
 use Rattle.frame.specs.ByteLaws.{withoutCheck}
 use Rattle.frame.specs.Nominal.{nominalIntervals, responseBare}
 use Rattle.frame.specs.WrittenBack.{reads-written}
 use Rattle.frame.specs.Again.{WrittenAgain, written-again}
 
+-- the same frame, opened at a place of its own
+abbrev pub putAt : Good → ℕ → Good
+putAt f o = record { main = f .main; response = f .response; kind = f .kind; opening = o; next = o + (f .next - f .opening) }
+
 -- A good frame's intervals at nominal widths, put anywhere on a line, are read as the same parts and the same kind of response,
 -- over as many intervals.
-pub reads-again : (ws : List ℕ) (p lent : ℕ) (main response : List ℕ) (kind : Response) (o k : ℕ) (before behind : List ℕ) (room : ℕ)
-    → reading ws p lent ≡ good main response kind o k → length before % 2 ≡ 0 → mostBytes ≤ room
-    → reading (before ++ (nominalIntervals ws o k ++ behind)) (length before) room ≡ good main response kind (length before) (length before + (k - o))
-reads-again ws p lent main response kind o k before behind room e even h = go (written-again ws p lent main response kind o k e)
+pub reads-again : (ws : List ℕ) (p lent : ℕ) (f : Good) (before behind : List ℕ) (room : ℕ) → reading ws p lent ≡ good f → length before % 2 ≡ 0
+    → mostBytes ≤ room → reading (before ++ (nominalIntervals ws (f .opening) (f .next) ++ behind)) (length before) room ≡ good (putAt f (length before))
+reads-again ws p lent f before behind room e even h = go (written-again ws p lent f e)
   where
-    go : WrittenAgain ws main response kind o k
-        → reading (before ++ (nominalIntervals ws o k ++ behind)) (length before) room ≡ good main response kind (length before) (length before + (k - o))
+    go : WrittenAgain ws f → reading (before ++ (nominalIntervals ws (f .opening) (f .next) ++ behind)) (length before) room ≡ good (putAt f (length before))
     go a =
-        let last : length before + length (nominalIntervals ws o k) - 1 ≡ length before + (k - o) = omega (arith, a .as-many, ap length (a .same-words)) in
+        let last : length before + length (nominalIntervals ws (f .opening) (f .next)) - 1 ≡ length before + (f .next - f .opening) = omega (arith, a .as-many, ap length (a .same-words)) in
         rw (← last)
-        (rw (a .same-words, a .main-again, a .response-again) at (reads-written nominalClock before behind (withoutCheck main) kind (responseBare kind response) room nominal-good (a .is-admitted) (a .main-bytes) (a .response-bytes) even h))
+        (rw (a .same-words, a .main-again, a .response-again) at (reads-written nominalClock before behind (withoutCheck (f .main)) (f .kind) (responseBare (f .kind) (f .response)) room nominal-good (a .is-admitted) (a .main-bytes) (a .response-bytes) even h))

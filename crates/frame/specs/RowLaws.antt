@@ -3,20 +3,20 @@ use Prim.Native.Nat.{ℕ, _≤_, _<_}
 use mathlib.Core.Path.{_≡_, refl, sym}
 use mathlib.Core.Bool.{Bool, true, false, cond, not, _&&_}
 use mathlib.Core.List.{List, [], _∷_}
-use mathlib.Core.Logic.{_↔_}
+use mathlib.Core.Logic.{_↔_, inl, inr, ⊎-elim}
 use native.Mathlib.Omega.{arith}
 use lib.Dec.{eqb, leb}
 use borrow.Author.Tests.{eqb-true, eqb-false, leb-true, not-true}
 use Rattle.laws.specs.Tests.{never, both}
-use Rattle.symbol.specs.declared.Symbol.{Symbol}
+use Rattle.frame.specs.Signs.{Sign, wrongOf}
 use Rattle.frame.specs.Standing.{Standing}
 use Rattle.frame.specs.Faults.{fault}
-use Rattle.frame.specs.Rows.{Row, rows, firstRow, FirstToHold}
+use Rattle.frame.specs.Rows.{Row, wrongItself, rows, firstRow, FirstToHold, FirstFault}
 
--- A fault's number is that of the first row.
-pub fault-first : (st : Standing) (s : Symbol) → fault st s ≡ firstRow (rows st s)
+-- A fault's number is that of what is wrong by itself, and otherwise of the first row.
+pub fault-first : (limit : ℕ) (st : Standing) (s : Sign) → fault limit st s ≡ cond (wrongItself s .says) (wrongOf s) (firstRow (rows limit st s))
 unfolding fault
-fault-first st s = refl
+fault-first limit st s = refl
 
 -- no row has the number n
 abbrev without : ℕ → List Row → Bool
@@ -69,13 +69,28 @@ none-is (r ∷ rs) w =
     go true s d ih = (λ e. absurd (eqb-false 0 (r .number) d (sym e)), λ h. absurd (h .0 (r .when .means .0 s)))
     go false s d ih = (λ e. (λ x. never (r .when .means .1 x) s, ih .0 e), λ h. ih .1 (h .1))
 
--- The fault of an interval is n exactly when row n holds of it and no row that is judged before does.
-pub fault-is : (n : ℕ) (st : Standing) (s : Symbol) → 0 < n → (fault st s ≡ n) ↔ FirstToHold n (rows st s)
-fault-is n st s h = rw (fault-first st s) (first-is n (rows st s) h refl)
+module _ (limit : ℕ) (st : Standing) (s : Sign) where
+  -- The fault of an interval is n exactly when it is wrong by itself with that number, or it is not and row n holds of it and
+  -- no row that is judged before does.
+  pub fault-is : (n : ℕ) → 0 < n → (fault limit st s ≡ n) ↔ FirstFault n limit st s
+  fault-is n h = rw (fault-first limit st s) (go (eqb (wrongOf s) 0) refl)
+    where
+      go : (b : Bool) → eqb (wrongOf s) 0 ≡ b → (cond (not b) (wrongOf s) (firstRow (rows limit st s)) ≡ n) ↔ FirstFault n limit st s
+      go true e =
+          let none : wrongOf s ≡ 0 = eqb-true (wrongOf s) 0 e in
+          let law = first-is n (rows limit st s) h refl in
+          (λ f. inr (none, law .0 f), λ f. ⊎-elim (λ a. absurd (omega (arith, none, h))) (λ a. law .1 (a .1)) f)
+      go false e = (λ f. inl f, λ f. ⊎-elim (λ a. a) (λ a. absurd (eqb-false (wrongOf s) 0 e (a .0))) f)
 
--- An interval is at no fault exactly when no row holds of it.
-pub no-fault-is : (st : Standing) (s : Symbol) → (fault st s ≡ 0) ↔ NoneHolds (rows st s)
-no-fault-is st s = rw (fault-first st s) (none-is (rows st s) refl)
+  -- An interval is at no fault exactly when it is not wrong by itself and no row holds of it.
+  pub no-fault-is : (fault limit st s ≡ 0) ↔ ((wrongOf s ≡ 0) × NoneHolds (rows limit st s))
+  no-fault-is = rw (fault-first limit st s) (go (eqb (wrongOf s) 0) refl)
+    where
+      go : (b : Bool) → eqb (wrongOf s) 0 ≡ b → (cond (not b) (wrongOf s) (firstRow (rows limit st s)) ≡ 0) ↔ ((wrongOf s ≡ 0) × NoneHolds (rows limit st s))
+      go true e =
+          let law = none-is (rows limit st s) refl in
+          (λ f. (eqb-true (wrongOf s) 0 e, law .0 f), λ f. law .1 (f .1))
+      go false e = (λ f. absurd (eqb-false (wrongOf s) 0 e f), λ f. absurd (eqb-false (wrongOf s) 0 e (f .0)))
 
 upTo : ℕ → List Row → Bool
 upTo m [] = true
@@ -92,7 +107,11 @@ none-greater m (r ∷ rs) h =
     go true h k = h
     go false h k = k
 
--- No fault has a number above 20.
-pub fault-number : (st : Standing) (s : Symbol) → fault st s ≤ 20
+-- No fault has a number above 20, where nothing that is wrong by itself has one.
+pub fault-number : (limit : ℕ) (st : Standing) (s : Sign) → wrongOf s ≤ 20 → fault limit st s ≤ 20
 unfolding upTo
-fault-number st s = rw (fault-first st s) (none-greater 20 (rows st s) refl)
+fault-number limit st s h = rw (fault-first limit st s) (go (eqb (wrongOf s) 0))
+  where
+    go : (b : Bool) → cond (not b) (wrongOf s) (firstRow (rows limit st s)) ≤ 20
+    go true = none-greater 20 (rows limit st s) refl
+    go false = h

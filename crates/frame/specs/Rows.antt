@@ -1,58 +1,55 @@
 -- The rows 11 to 20 of document 01's table "What reading answers" as propositions, in the order in which they are judged at
 -- one interval.
 use Prim.Native.Nat.{ℕ, _%_}
+use mathlib.Core.Path.{_≡_}
 use mathlib.Core.Bool.{cond}
 use mathlib.Core.List.{List, [], _∷_, _++_}
+use mathlib.Core.Logic.{_⊎_}
 use lib.Dec.{eqb}
 use lib.ListN.{length}
-use Rattle.symbol.specs.declared.Symbol.{Symbol}
-use Rattle.symbol.specs.declared.Symbol.the-variants.{Noise, Eod, Sof, Break, Stuck}
-use Rattle.frame.specs.Standing.{Standing}
-use Rattle.frame.specs.Faults.{facts, mainBytes, responseBytes, partBytes, mostBytes, checksOut}
-use Rattle.frame.specs.Meant.{Test, both, isNot, set, equals, below, symbolIs, bit, shutting}
+use Rattle.frame.specs.Signs.{Sign, wrongOf, isEod, isBit, isSof, shuts}
+use Rattle.frame.specs.Standing.{Standing, counted}
+use Rattle.frame.specs.Faults.{facts, mainBytes, responseBytes, partBytes, checksOut}
+use Rattle.frame.specs.Meant.{Test, both, isNot, set, equals, below}
 
 -- ## The rows
 
-module _ (st : Standing) (s : Symbol) where
-  -- 11: "noise inside a frame"
-  abbrev pub noiseInside : Test
-  noiseInside = symbolIs Noise s
+-- 11, 14, 13: the interval is wrong by itself, by what it shows
+abbrev pub wrongItself : Sign → Test
+wrongItself s = isNot (equals (wrongOf s) 0)
 
-  -- 14: "stuck"
-  abbrev pub lineStuck : Test
-  lineStuck = symbolIs Stuck s
-
-  -- 13: "break"
-  abbrev pub lineBreak : Test
-  lineBreak = symbolIs Break s
+module _ (limit : ℕ) (st : Standing) (s : Sign) where
+  -- the standing with the bit that the interval completes
+  abbrev then : Standing
+  then = counted st s
 
   -- 12: "first active interval is 35..163", which is the width of a bit
   abbrev pub bitForSof : Test
-  bitForSof = both (set (facts st .sofPlace)) (bit s)
+  bitForSof = both (set (facts st .sofPlace)) (set (isBit s))
 
   -- 15: "active SOF width after the SOF, also in place of a normalization bit"
   abbrev pub sofAgain : Test
-  sofAgain = both (isNot (set (facts st .sofPlace))) (symbolIs Sof s)
+  sofAgain = both (isNot (set (facts st .sofPlace))) (set (isSof s))
 
   -- 16: "EOD or end after 1 to 7 bits of a byte"
   abbrev pub byteSplit : Test
-  byteSplit = both (shutting s) (isNot (equals (length (facts st .part) % 8) 0))
+  byteSplit = both (set (shuts s)) (isNot (equals (length (facts then .part) % 8) 0))
 
   -- 17: "EOD or end with too few bytes in that part"
   abbrev pub bytesFew : Test
-  bytesFew = both (shutting s) (below (length (partBytes st)) (facts st .fewest))
+  bytesFew = both (set (shuts s)) (below (length (partBytes then)) (facts then .fewest))
 
   -- 18: "check byte wrong, either part, judged at its EOD or end"
   abbrev pub checkWrong : Test
-  checkWrong = both (shutting s) (both (set (facts st .hasCheck)) (isNot (set (checksOut (partBytes st)))))
+  checkWrong = both (set (shuts s)) (both (set (facts then .hasCheck)) (isNot (set (checksOut (partBytes then)))))
 
   -- 19: "EOD after a response that passes 16, 17 and 18"
   abbrev pub eodBehindResponse : Test
-  eodBehindResponse = both (symbolIs Eod s) (set (facts st .responding))
+  eodBehindResponse = both (set (isEod s)) (set (facts then .responding))
 
-  -- 20: "first bit of a thirteenth byte"
-  abbrev pub bitBehindTwelve : Test
-  bitBehindTwelve = both (bit s) (both (set (facts st .inPart)) (equals (length (mainBytes st ++ responseBytes st)) mostBytes))
+  -- 20: "first bit of a thirteenth byte", where a frame has at most twelve
+  abbrev pub bitPastLimit : Test
+  bitPastLimit = both (set (isBit s)) (both (set (facts st .inPart)) (equals (length (mainBytes st ++ responseBytes st)) limit))
 
 -- a row: its number, and when it holds
 pub record Row : Type 1 where
@@ -63,19 +60,16 @@ pub record Row : Type 1 where
 abbrev pub row : ℕ → Test → Row
 row n t = record { number = n; when = t }
 
--- "At one interval the order is 11, 14, 13, 12, 15, 16, 17, 18, 19, 20."
-abbrev pub rows : Standing → Symbol → List Row
-rows st s =
-    row 11 (noiseInside st s)
-    ∷ row 14 (lineStuck st s)
-    ∷ row 13 (lineBreak st s)
-    ∷ row 12 (bitForSof st s)
-    ∷ row 15 (sofAgain st s)
-    ∷ row 16 (byteSplit st s)
-    ∷ row 17 (bytesFew st s)
-    ∷ row 18 (checkWrong st s)
-    ∷ row 19 (eodBehindResponse st s)
-    ∷ row 20 (bitBehindTwelve st s)
+-- "At one interval the order is 11, 14, 13, 12, 15, 16, 17, 18, 19, 20": the rows of an interval that is not wrong by itself
+abbrev pub rows : (limit : ℕ) → Standing → Sign → List Row
+rows limit st s =
+    row 12 (bitForSof limit st s)
+    ∷ row 15 (sofAgain limit st s)
+    ∷ row 16 (byteSplit limit st s)
+    ∷ row 17 (bytesFew limit st s)
+    ∷ row 18 (checkWrong limit st s)
+    ∷ row 19 (eodBehindResponse limit st s)
+    ∷ row 20 (bitPastLimit limit st s)
     ∷ []
 
 -- ## The first row that holds
@@ -89,3 +83,7 @@ firstRow (r ∷ rs) = cond (r .when .says) (r .number) (firstRow rs)
 abbrev pub FirstToHold : ℕ → List Row → Type 0
 FirstToHold n [] = ⊥
 FirstToHold n (r ∷ rs) = cond (eqb n (r .number)) (r .when .Holds) ((¬ (r .when .Holds)) × FirstToHold n rs)
+
+-- The interval is at fault n: it is wrong by itself, with that number; or it is not, and row n is the first that holds.
+abbrev pub FirstFault : (n limit : ℕ) → Standing → Sign → Type 0
+FirstFault n limit st s = (wrongOf s ≡ n) ⊎ ((wrongOf s ≡ 0) × FirstToHold n (rows limit st s))

@@ -3,12 +3,12 @@
 -- an end."
 use Prim.Native.Nat.{ℕ, _+_}
 use mathlib.Core.Bool.{Bool, true, false, cond}
-use mathlib.Core.List.{List}
+use mathlib.Core.List.{List, [], _∷_, _++_}
 use lib.Dec.{eqb}
-use Rattle.symbol.specs.declared.Symbol.the-variants.{Bit1, Eod}
 use Rattle.frame.specs.declared.Response.{Response}
 use Rattle.frame.specs.declared.Response.the-variants.{Plain, Checked}
-use Rattle.frame.specs.Line.{symbolAt, is, Found, nowhere, at, firstIn, bitsIn}
+use Rattle.frame.specs.Signs.{Sign, bitsShown, isEod}
+use Rattle.frame.specs.Line.{Line, Found, nowhere, at, firstIn, bitsIn}
 
 -- a response that there is: without a check byte, or with one
 pub data Kind : Type 0 where
@@ -32,15 +32,39 @@ pub data Standing : Type 0 where
   atNormalization : (main : List Bool) → Standing
   inResponse : Kind → (main response : List Bool) → Standing
 
+-- ## More bits
+
+-- the bits after an EOD: the first of them is the normalization bit
+abbrev pub responseBy : (main bits : List Bool) → Standing
+responseBy main [] = atNormalization main
+responseBy main (b ∷ bits) = inResponse (kindBy b) main bits
+
+-- a standing with more bits
+abbrev pub withBits : Standing → List Bool → Standing
+withBits atSof bits = atSof
+withBits (inMain m) bits = inMain (m ++ bits)
+withBits (atNormalization m) bits = responseBy m bits
+withBits (inResponse k m r) bits = inResponse k m (r ++ bits)
+
+-- the standing of an interval with the bits that the interval itself completes
+abbrev pub counted : Standing → Sign → Standing
+counted st s = withBits st (bitsShown s)
+
+-- the standing after an interval
+abbrev pub moved : Standing → Sign → Standing
+moved atSof s = inMain []
+moved (inMain m) s = cond (isEod s) (atNormalization (m ++ bitsShown s)) (inMain (m ++ bitsShown s))
+moved (atNormalization m) s = responseBy m (bitsShown s)
+moved (inResponse k m r) s = inResponse k m (r ++ bitsShown s)
+
+-- ## Where a place stands
+
 -- The opening is at o, the SOF's place is o + 1, and the main part's bits begin at o + 2. The first EOD from there on, at e,
--- closes the main part; the normalization bit's place is e + 1, and the response's bits begin at e + 2.
-abbrev pub standsBy : Found → List ℕ → ℕ → ℕ → Standing
-standsBy nowhere ws o k = inMain (bitsIn ws (o + 2) k)
-standsBy (at e) ws o k =
-    cond (eqb k (e + 1))
-    (atNormalization (bitsIn ws (o + 2) e))
-    (inResponse (kindBy (is Bit1 (symbolAt ws (e + 1)))) (bitsIn ws (o + 2) e) (bitsIn ws (e + 2) k))
+-- closes the main part; the first bit after it is the normalization bit, and the response's bits follow.
+abbrev pub standsBy : Found → Line → ℕ → ℕ → Standing
+standsBy nowhere l o k = inMain (bitsIn l (o + 2) k)
+standsBy (at e) l o k = responseBy (bitsIn l (o + 2) (e + 1)) (bitsIn l (e + 1) k)
 
 -- where place k stands in the frame that opens at o
-unfoldable pub stands : List ℕ → ℕ → ℕ → Standing
-stands ws o k = cond (eqb k (o + 1)) atSof (standsBy (firstIn (λ j. is Eod (symbolAt ws j)) (o + 2) k) ws o k)
+unfoldable pub stands : Line → ℕ → ℕ → Standing
+stands l o k = cond (eqb k (o + 1)) atSof (standsBy (firstIn (λ j. isEod (l .shows j)) (o + 2) k) l o k)

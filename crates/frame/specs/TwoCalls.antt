@@ -20,11 +20,11 @@ use Rattle.frame.specs.declared.Reading.{Reading}
 use Rattle.frame.specs.declared.Reading.the-variants.{Frame}
 use Rattle.frame.specs.declared.Writing.{Writing}
 use Rattle.frame.specs.declared.Writing.the-variants.{Words}
-use Rattle.frame.specs.Standing.{stands}
-use Rattle.frame.specs.Faults.{mostBytes, mainBytes, responseBytes}
-use Rattle.frame.specs.Reading.{Outcome, good, reading}
+use Rattle.frame.specs.Line.{single}
+use Rattle.frame.specs.Faults.{mostBytes}
+use Rattle.frame.specs.Reading.{Good, Outcome, good, frameAt, reading}
 use Rattle.frame.specs.Answers.{told, tells, lentAfter, ReadPromise}
-use Rattle.frame.specs.Writing.{Sheet, words, writing, mostWords, responseSent, frameWords, badMessage, counted, counts, wordsAfter, WritePromise}
+use Rattle.frame.specs.Writing.{Sheet, words, writing, mostWords, responseSent, frameSent, frameWords, badMessage, counted, counts, wordsAfter, WritePromise}
 use Rattle.frame.specs.ByteLaws.{withoutCheck}
 use Rattle.frame.specs.Decided.{Decision, isUnfinished, isGood, isFaulty, decision}
 use Rattle.frame.specs.Outcomes.{Comes, isPast, isShort, isQuiet, isOpened, comes}
@@ -57,7 +57,7 @@ wrote c main kind rs lent n e = go (goodOf c) (badMessage main kind rs) (ltb len
 pub write-then-read : (c : Clock) (main : List ℕ) (kind : Response) (rs : List ℕ) (entry exit : List ℕ) (n : ℕ)
     → WritePromise c main kind rs entry exit (Words n) → Bytes main → Bytes rs
     → (lent left : List ℕ) (answer : Reading) → ReadPromise exit 0 lent left answer → mostBytes ≤ length lent
-    → (told answer ≡ tells (good (withCheck main) (responseSent kind rs) kind 0 (n - 1)))
+    → (told answer ≡ tells (good (frameSent main kind rs 0 (n - 1))))
     × (left ≡ (withCheck main ++ responseSent kind rs) ++ drop (length (withCheck main ++ responseSent kind rs)) lent)
 write-then-read c main kind rs entry exit n w mb rb lent left answer r enough =
     (r .tells-it ∙ ap tells is, r .lends-it ∙ ap (λ (x : Outcome). lentAfter x lent) is)
@@ -71,44 +71,48 @@ write-then-read c main kind rs entry exit n w mb rb lent left answer r enough =
     line : exit ≡ frameWords c main kind rs ++ drop (length (frameWords c main kind rs)) entry
     line = w .lends-it ∙ ap (λ (s : Sheet). wordsAfter s entry) (facts .sheet)
 
-    is : reading exit 0 (length lent) ≡ good (withCheck main) (responseSent kind rs) kind 0 (n - 1)
+    is : reading exit 0 (length lent) ≡ good (frameSent main kind rs 0 (n - 1))
     is = rw (line, count) (reads-written c [] (drop (length (frameWords c main kind rs)) entry) main kind rs (length lent) (facts .good-clock) (facts .admitted) mb rb refl enough
-        ∙ ap (good (withCheck main) (responseSent kind rs) kind 0) (omega arith))
+        ∙ ap (λ (k : ℕ). good (frameSent main kind rs 0 k)) (omega arith))
 
 -- ## What is read is written again
 
--- what an answer that is a frame shows of the reading behind it
+-- what an answer that is a frame shows of the reading that it tells
 record Read (ws : List ℕ) (p lent : ℕ) (lengths : Lengths) (kind : Response) (o k : ℕ) : Type 0 where
-  main : List ℕ
-  response : List ℕ
-  is-good : reading ws p lent ≡ good main response kind o k
-  main-long : lengths .main ≡ length main
-  response-long : lengths .response ≡ length response
+  frame : Good
+  is-good : reading ws p lent ≡ good frame
+  main-long : lengths .main ≡ length (frame .main)
+  response-long : lengths .response ≡ length (frame .response)
+  kind-is : frame .kind ≡ kind
+  opening-is : frame .opening ≡ o
+  next-is : frame .next ≡ k
 
 zero-not : {A : Type 0} {n : ℕ} → 0 ≡ n → 0 < n → A
 zero-not e h = absurd (omega arith)
 
 framed : (ws : List ℕ) (p lent : ℕ) (lengths : Lengths) (kind : Response) (o k : Place)
     → told (Frame lengths kind o k) ≡ tells (reading ws p lent) → Read ws p lent lengths kind (o .0) (k .0)
-framed ws p lent lengths kind o k e = go (reading ws p lent) (comes ws p lent) refl e
+framed ws p lent lengths kind o k e = go (reading ws p lent) (comes mostBytes (single ws) p lent) refl e
   where
-    by : (x : Outcome) (q : ℕ) → Decision ws q x → reading ws p lent ≡ x → told (Frame lengths kind o k) ≡ tells x → Read ws p lent lengths kind (o .0) (k .0)
+    by : (x : Outcome) (q : ℕ) → Decision mostBytes (single ws) q x → reading ws p lent ≡ x → told (Frame lengths kind o k) ≡ tells x → Read ws p lent lengths kind (o .0) (k .0)
     by x q (isUnfinished u) f d = zero-not (ap (λ t. t .number) d) (omega arith)
     by x q (isGood {k = j} u v w) f d =
         record {
-          main = mainBytes (stands ws q j);
-          response = responseBytes (stands ws q j);
-          is-good = f ∙ sym (rw (ap (λ t. t .response) d, ap (λ t. t .opening) d, ap (λ t. t .next) d));
+          frame = frameAt (single ws) q j;
+          is-good = f;
           main-long = ap (λ t. t .mainLength) d;
           response-long = ap (λ t. t .responseLength) d;
+          kind-is = sym (ap (λ t. t .response) d);
+          opening-is = sym (ap (λ t. t .opening) d);
+          next-is = sym (ap (λ t. t .next) d);
         }
     by x q (isFaulty {k = j} u v) f d = zero-not (ap (λ t. t .number) d) v
 
-    go : (x : Outcome) → Comes ws p lent x → reading ws p lent ≡ x → told (Frame lengths kind o k) ≡ tells x → Read ws p lent lengths kind (o .0) (k .0)
+    go : (x : Outcome) → Comes mostBytes (single ws) p lent x → reading ws p lent ≡ x → told (Frame lengths kind o k) ≡ tells x → Read ws p lent lengths kind (o .0) (k .0)
     go x (isPast h) f d = zero-not (ap (λ t. t .number) d) (omega arith)
     go x (isShort h l) f d = zero-not (ap (λ t. t .number) d) (omega arith)
     go x (isQuiet h l) f d = zero-not (ap (λ t. t .number) d) (omega arith)
-    go x (isOpened {o = q} h l op) f d = by x q (decision ws q) f d
+    go x (isOpened {o = q} h l op) f d = by x q (decision mostBytes (single ws) q) f d
 
 -- a frame's parts out of the lent bytes in which it was laid, without their check bytes
 abbrev pub mainTaken : Lengths → List ℕ → List ℕ
@@ -148,20 +152,30 @@ read-then-write ws p lent left lengths kind o k q entry exit answer w enough = (
     f : Read ws p (length lent) lengths kind (o .0) (k .0)
     f = framed ws p (length lent) lengths kind o k (q .tells-it)
 
-    laid : left ≡ (f .main ++ f .response) ++ drop (length (f .main ++ f .response)) lent
+    main : List ℕ
+    main = f .frame .main
+
+    response : List ℕ
+    response = f .frame .response
+
+    laid : left ≡ (main ++ response) ++ drop (length (main ++ response)) lent
     laid = q .lends-it ∙ ap (λ (x : Outcome). lentAfter x lent) (f .is-good)
 
-    again : WrittenAgain ws (f .main) (f .response) kind (o .0) (k .0)
-    again = written-again ws p (length lent) (f .main) (f .response) kind (o .0) (k .0) (f .is-good)
+    again : WrittenAgain ws (f .frame)
+    again = written-again ws p (length lent) (f .frame) (f .is-good)
+
+    intervals : nominalIntervals ws (f .frame .opening) (f .frame .next) ≡ nominalIntervals ws (o .0) (k .0)
+    intervals = rw (f .opening-is, f .next-is)
 
     many : length (nominalIntervals ws (o .0) (k .0)) ≡ k .0 - o .0 + 1
-    many = sym (ap length (again .same-words)) ∙ again .as-many
+    many = sym (ap length (again .same-words ∙ intervals)) ∙ again .as-many ∙ rw (f .opening-is, f .next-is)
 
     sheet : writing nominalClock (mainTaken lengths left) kind (responseTaken kind lengths left) (length entry) ≡ words (nominalIntervals ws (o .0) (k .0))
     sheet =
-        ap (λ (l : List ℕ). writing nominalClock (mainTaken lengths l) kind (responseTaken kind lengths l) (length entry)) laid
-        ∙ ap (λ (x : List ℕ). writing nominalClock x kind (responseTaken kind lengths ((f .main ++ f .response) ++ drop (length (f .main ++ f .response)) lent)) (length entry))
-        (main-taken lengths (f .main) (f .response) (drop (length (f .main ++ f .response)) lent) (f .main-long) (f .response-long))
-        ∙ ap (λ (x : List ℕ). writing nominalClock (withoutCheck (f .main)) kind x (length entry))
-        (response-taken lengths (f .main) (f .response) (drop (length (f .main ++ f .response)) lent) (f .main-long) (f .response-long) kind)
-        ∙ writes-again ws p (length lent) (f .main) (f .response) kind (o .0) (k .0) (length entry) (f .is-good) enough
+        ap (λ (x : List ℕ). writing nominalClock (mainTaken lengths x) kind (responseTaken kind lengths x) (length entry)) laid
+        ∙ ap (λ (x : List ℕ). writing nominalClock x kind (responseTaken kind lengths ((main ++ response) ++ drop (length (main ++ response)) lent)) (length entry))
+        (main-taken lengths main response (drop (length (main ++ response)) lent) (f .main-long) (f .response-long))
+        ∙ ap (λ (x : List ℕ). writing nominalClock (withoutCheck main) kind x (length entry))
+        (response-taken lengths main response (drop (length (main ++ response)) lent) (f .main-long) (f .response-long) kind)
+        ∙ ap (λ (x : Response). writing nominalClock (withoutCheck main) x (responseBare x response) (length entry)) (sym (f .kind-is))
+        ∙ writes-again ws p (length lent) (f .frame) (length entry) (f .is-good) enough ∙ ap words intervals

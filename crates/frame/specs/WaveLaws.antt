@@ -2,16 +2,17 @@
 use Prim.Native.Nat.{ℕ, suc, _+_, _%_}
 use mathlib.Core.Path.{_≡_, refl, ap, _∙_}
 use mathlib.Core.Bool.{Bool, true, false, not}
-use mathlib.Core.List.{List, [], _∷_, _++_}
+use mathlib.Core.List.{List, [], _∷_, _++_, map}
 use native.Mathlib.Omega.{arith}
 use native.Mathlib.Nat.{add-zero}
 use lib.ListN.{length, getD, length-append}
 use lib.Seq.{getD-append-seam, append-snoc}
 use borrow.Author.Tests.{eqb-true, eqb-false, eq-eqb, ne-eqb}
 use Rattle.symbol.specs.declared.Symbol.{Symbol}
-use Rattle.symbol.specs.Classes.{ends}
-use Rattle.symbol.specs.ClassLaws.{class-only, end-is}
-use Rattle.frame.specs.Line.{activeAt, symbolAt, endAt}
+use Rattle.symbol.specs.ClassLaws.{class-only}
+use Rattle.symbol.specs.SendingLaws.{bitSymbol}
+use Rattle.frame.specs.Signs.{Sign, bit}
+use Rattle.frame.specs.Line.{activeAt, symbolAt, signOf, Line, single}
 use Rattle.frame.specs.Waves.{Wave, still, pulse}
 
 -- ## Levels
@@ -85,7 +86,26 @@ stand-append ws i (v ∷ a) b h =
     let n : i + suc (length a) ≡ i + 1 + length a = omega arith in
     ((h .0, r .0), rw n (r .1))
 
--- An interval is an end where its symbol is one, and where its place is even and its width 240 or more.
-pub end-symbol : (ws : List ℕ) (k : ℕ) → endAt ws k ≡ ends (symbolAt ws k)
-unfolding endAt symbolAt
-end-symbol ws k = end-is (activeAt k) (getD ws k 0)
+-- ## What places show
+
+-- the places from i on show these signs
+abbrev pub Shows : Line → ℕ → List Sign → Type 0
+Shows l i [] = Unit {0}
+Shows l i (s ∷ ss) = (l .shows i ≡ s) × Shows l (i + 1) ss
+
+-- A bit's symbol shows the bit.
+pub bit-shown : (b : Bool) → signOf (bitSymbol b) ≡ bit b
+bit-shown true = refl
+bit-shown false = refl
+
+-- Places that carry symbols show what those do.
+pub carry-shows : (ws : List ℕ) (i : ℕ) (symbols : List Symbol) → Carry ws i symbols → Shows (single ws) i (map signOf symbols)
+carry-shows ws i [] c = tt
+carry-shows ws i (s ∷ symbols) c = (ap signOf (c .0), carry-shows ws (i + 1) symbols (c .1))
+
+-- Signs and signs after them, shown by the places after.
+pub shows-append : (l : Line) (i : ℕ) (a b : List Sign) → Shows l i a → Shows l (i + length a) b → Shows l i (a ++ b)
+shows-append l i [] b c d = rw (add-zero i) at d
+shows-append l i (s ∷ a) b c d =
+    let n : i + suc (length a) ≡ i + 1 + length a = omega arith in
+    (c .0, shows-append l (i + 1) a b (c .1) (rw n at d))

@@ -2,14 +2,14 @@
 use Prim.Native.Nat.{ℕ}
 use mathlib.Core.Path.{_≡_, refl}
 use mathlib.Core.List.{List, [], _∷_, map}
-use Rattle.symbol.specs.Classes.{classOf, endOf}
+use Rattle.symbol.specs.Classes.{classOf}
 use Rattle.checkbyte.specs.Register.{shift, eightShifts, stepOf, registerFrom, checkOf}
 use Rattle.frame.specs.declared.Response.the-variants.{Without}
 use Rattle.frame.specs.Bits.{bytes}
-use Rattle.frame.specs.Line.{symbolAt, endAt, first, opening, bitsFrom}
+use Rattle.frame.specs.Line.{symbolAt, first, opening, bitsFrom}
 use Rattle.frame.specs.Standing.{stands}
 use Rattle.frame.specs.Faults.{mostBytes, checksOut, fault}
-use Rattle.frame.specs.Reading.{Outcome, good, quiet, decides, reading}
+use Rattle.frame.specs.Reading.{Good, Outcome, good, quiet, decides, readOn, reading}
 
 -- a recording, a position, and what reading from it answers
 pub record Worked : Type 0 where
@@ -30,14 +30,18 @@ abbrev pub ffff : List ℕ
 ffff =
     300 ∷ 200 ∷ 128 ∷ 64 ∷ 128 ∷ 64 ∷ 128 ∷ 64 ∷ 128 ∷ 64 ∷ 128 ∷ 64 ∷ 128 ∷ 64 ∷ 128 ∷ 64 ∷ 128 ∷ 64 ∷ 300 ∷ []
 
+-- the frame FF FF without a response, opened at 0, with 18 next
+abbrev pub ffffRead : Good
+ffffRead = record { main = 0xFF ∷ 0xFF ∷ []; response = []; kind = Without; opening = 0; next = 18 }
+
 -- From 0 it is a frame FF FF without a response, opened at 0, with 18 next; from 18 it is quiet, with 18 next.
 abbrev pub workedReadings : List Worked
 workedReadings =
-    record { intervals = ffff; position = 0; answer = good (0xFF ∷ 0xFF ∷ []) [] Without 0 18 }
+    record { intervals = ffff; position = 0; answer = good ffffRead }
     ∷ record { intervals = ffff; position = 18; answer = quiet 18 }
     ∷ []
 
 -- The definitions answer what is written down.
 pub readings-worked : map answered workedReadings ≡ map expected workedReadings
-unfolding reading opening decides stands fault checksOut bytes first symbolAt endAt bitsFrom classOf endOf checkOf registerFrom stepOf eightShifts shift
+unfolding readOn opening decides stands fault checksOut bytes first symbolAt bitsFrom classOf checkOf registerFrom stepOf eightShifts shift
 readings-worked = refl

@@ -15,6 +15,7 @@ use Rattle.frame.specs.declared.Writing.{Writing}
 use Rattle.frame.specs.declared.Writing.the-variants.{Words, BadClock, BadMessage, FewLentWords}
 use Rattle.frame.specs.Bits.{bitsOf}
 use Rattle.frame.specs.Faults.{mostBytes}
+use Rattle.frame.specs.Reading.{Good}
 
 -- "A frame takes at most 101 words"
 abbrev pub mostWords : ℕ
@@ -34,6 +35,10 @@ abbrev pub responseSent : Response → List ℕ → List ℕ
 responseSent Without rs = []
 responseSent Plain rs = rs
 responseSent Checked rs = withCheck rs
+
+-- The good frame that a message is, its checks included, where it opens at o and closes at k.
+abbrev pub frameSent : (main : List ℕ) → Response → (rs : List ℕ) → (o k : ℕ) → Good
+frameSent main kind rs o k = record { main = withCheck main; response = responseSent kind rs; kind = kind; opening = o; next = k }
 
 -- The EOD, at the SOF's width, and "a normalization bit, short for a plain response, long for a checked one", and the bytes.
 abbrev pub responseWidths : Clock → Response → List ℕ → List ℕ

@@ -21,7 +21,7 @@ use Rattle.frame.specs.declared.Response.the-variants.{Without, Plain, C
 use Rattle.frame.specs.Bits.{bitsOf}
 use Rattle.frame.specs.Faults.{mostBytes}
 use Rattle.frame.specs.Reading.{good, reading}
-use Rattle.frame.specs.Writing.{bitWidths, responseSent, responseWidths, frameWords, badMessage}
+use Rattle.frame.specs.Writing.{frameSent, bitWidths, responseWidths, frameWords, badMessage}
 use Rattle.frame.specs.Waves.{Wave, still, pulse, bitSymbols, byteSymbols, responseSymbols, FrameWave}
 use Rattle.frame.specs.WaveLaws.{turned, wave-append}
 use Rattle.frame.specs.WordLaws.{level-back, innerWords, frame-inner}
@@ -68,6 +68,6 @@ module _ (c : Clock) (g : Good c) where
 pub reads-written : (c : Clock) (before behind main : List ℕ) (kind : Response) (rs : List ℕ) (lent : ℕ) → goodOf c ≡ true
     → badMessage main kind rs ≡ false → Bytes main → Bytes rs → length before % 2 ≡ 0 → mostBytes ≤ lent
     → reading (before ++ (frameWords c main kind rs ++ behind)) (length before) lent
-    ≡ good (withCheck main) (responseSent kind rs) kind (length before) (length before + length (frameWords c main kind rs) - 1)
+    ≡ good (frameSent main kind rs (length before) (length before + length (frameWords c main kind rs) - 1))
 reads-written c before behind main kind rs lent g adm mb rb even enough =
     reads-wave before (frameWords c main kind rs) behind main kind rs lent (written-wave c (good-clock c g) main kind rs) adm mb rb even enough

@@ -29,6 +29,20 @@ pub enum Fault {
     ThirteenthByte,
 }
 
+// What an interval shows inside a frame: it is wrong by itself, a SOF, a bit, or what shuts a part, an EOD or an end.
+pub enum Sign {
+    Wrong(Fault),
+    Sof,
+    Bit(bool),
+    Shut(bool),
+}
+
+// All bytes of a frame together are at most so many.
+pub const MOST_BYTES: usize = 12;
+
+// The words that the longest frame takes. So many have to be lent for each.
+pub const MOST_WORDS: usize = 101;
+
 // What reading from a position answers. PastRecording and FewLentBytes are refusals, and change nothing.
 pub enum Reading {
     Frame {

@@ -8,7 +8,6 @@ use borrow.Author.Tests.{lt-ltb, le-ltb, ltb-true, ltb-false, lt-leb, eq-eqb, ne
 use Rattle.checkbyte.specs.Register.{residue, stepOf as registerStep}
 use Rattle.frame.specs.declared.Fault.the-variants.{NoSof, LateSof, SplitByte, FewBytes, WrongCheck}
 use Rattle.frame.specs.Bits.{value}
-use Rattle.frame.specs.Faults.{mostBytes}
 use Rattle.frame_machine.specs.declared.Phase.the-variants.{Main}
 use Rattle.frame_machine.specs.declared.Machine.{Machine}
 use Rattle.frame_machine.specs.declared.Stepped.{Stepped}
@@ -28,24 +27,24 @@ few-by count began fewest h = go (ltb (count - fewest) began) refl
     go false e = sym (le-ltb count (began + fewest) (omega (arith, ltb-false (count - fewest) began e)))
 
 -- A bit of a byte. The bits of the byte so far are `bits`.
-module _ (m : Machine) (one : Bool) where
-  pub push-open : (v bits : ℕ) → m .count < mostBytes → v ≡ value one → m .partial * 2 + v < 256 → bits ≡ m .partial * 2 + v
-      → _≡_ {A = Stepped} (record { machine = record { phase = m .phase; partial = bits; count = m .count; began = m .began; register = m .register }; event = Going }) (pushOf m one)
+module _ (limit : ℕ) (m : Machine) (one : Bool) where
+  pub push-open : (v bits : ℕ) → m .count < limit → v ≡ value one → m .partial * 2 + v < 256 → bits ≡ m .partial * 2 + v
+      → _≡_ {A = Stepped} (record { machine = record { phase = m .phase; partial = bits; count = m .count; began = m .began; register = m .register }; event = Going }) (pushOf limit m one)
   unfolding pushOf
-  push-open v bits h e s g = rw (lt-leb mostBytes (m .count) h, sym e, lt-ltb (m .partial * 2 + v) 256 s, g)
+  push-open v bits h e s g = rw (lt-leb limit (m .count) h, sym e, lt-ltb (m .partial * 2 + v) 256 s, g)
 
-  pub push-whole : (v byte r : ℕ) → m .count < mostBytes → v ≡ value one → 256 ≤ m .partial * 2 + v → byte ≡ m .partial * 2 + v - 256
+  pub push-whole : (v byte r : ℕ) → m .count < limit → v ≡ value one → 256 ≤ m .partial * 2 + v → byte ≡ m .partial * 2 + v - 256
       → r ≡ registerStep (m .register) byte
-      → _≡_ {A = Stepped} (record { machine = record { phase = m .phase; partial = 1; count = m .count + 1; began = m .began; register = r }; event = Byte byte }) (pushOf m one)
+      → _≡_ {A = Stepped} (record { machine = record { phase = m .phase; partial = 1; count = m .count + 1; began = m .began; register = r }; event = Byte byte }) (pushOf limit m one)
   unfolding pushOf
-  push-whole v byte r h e s g k = rw (lt-leb mostBytes (m .count) h, sym e, le-ltb (m .partial * 2 + v) 256 s, k, g)
+  push-whole v byte r h e s g k = rw (lt-leb limit (m .count) h, sym e, le-ltb (m .partial * 2 + v) 256 s, k, g)
 
 -- A bit's width, and the SOF's, where `inside` and `first` are the answers of the two tests of the phase.
 module _ (m : Machine) where
-  pub bit-by : (one inside k first j : Bool) → inside ≡ partOf (m .phase) → inside ≡ k → first ≡ sofPhase (m .phase) → first ≡ j
-      → cond k (pushOf m one) (cond j (faulty m NoSof) (responseBegun m one)) ≡ bitOf m one
+  pub bit-by : (limit : ℕ) (one inside k first j : Bool) → inside ≡ partOf (m .phase) → inside ≡ k → first ≡ sofPhase (m .phase) → first ≡ j
+      → cond k (pushOf limit m one) (cond j (faulty m NoSof) (responseBegun m one)) ≡ bitOf limit m one
   unfolding bitOf
-  bit-by one inside k first j e g f h = rw (sym e, g, sym f, h)
+  bit-by limit one inside k first j e g f h = rw (sym e, g, sym f, h)
 
   pub sof-by : (first j : Bool) → first ≡ sofPhase (m .phase) → first ≡ j → cond j (begun m Main) (faulty m LateSof) ≡ sofOf m
   unfolding sofOf

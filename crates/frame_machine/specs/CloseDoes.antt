@@ -1,20 +1,21 @@
 -- An EOD or an end, in each standing: the machine's tests are document 01's rows 16, 17, 18 and 19, in their order.
 use Prim.Native.Nat.{ℕ, _+_, _-_}
-use mathlib.Core.Path.{_≡_, refl, _∙_}
+use mathlib.Core.Path.{_≡_, refl, ap, _∙_}
 use mathlib.Core.Bool.{Bool, true, false, cond, not, _&&_}
 use mathlib.Core.List.{List, _++_, append-nil}
 use native.Mathlib.Omega.{arith}
 use lib.Dec.{eqb, ltb}
 use lib.ListN.{length, length-append}
 use borrow.Author.Tests.{lt-ltb, le-ltb, ltb-true, ltb-false}
-use Rattle.symbol.specs.declared.Symbol.{Symbol}
-use Rattle.symbol.specs.declared.Symbol.the-variants.{Eod, Eof, Ifs}
 use Rattle.checkbyte.specs.Register.{registerOf, registerFrom, residue}
 use Rattle.frame.specs.declared.Fault.the-variants.{SplitByte, FewBytes, WrongCheck, EodAfterResponse}
+use Rattle.frame.specs.Signs.{shut, shuts}
 use Rattle.frame.specs.Bits.{bytes}
 use Rattle.frame.specs.BitLaws.{leftOver, behind, left-none}
 use Rattle.frame.specs.Standing.{plain, checked, Standing, atSof, inMain, atNormalization, inResponse}
 use Rattle.frame.specs.Faults.{facts, partBytes, checksOut, whole, fault}
+use Rattle.frame.specs.StandingLaws.{counted-shut}
+use Rattle.frame.specs.Parts.{shutting, shut-fault}
 use Rattle.frame_machine.specs.declared.Stepped.{Stepped}
 use Rattle.frame_machine.specs.Steps.{faulty, closing, askedOf, eodOf, closeOf}
 use Rattle.frame_machine.specs.Holding.{phaseOf, earlier, soFar, holding}
@@ -24,29 +25,13 @@ use Rattle.frame_machine.specs.Does.{Does, faults, closes, goes}
 
 -- ## The rows of the paper that an EOD or an end can meet
 
--- 16, then 17, then 18, then what comes behind them
-abbrev rows : Standing → ℕ → ℕ
-rows st behind =
-    cond (not (whole (facts st .part))) 16
-    (cond (ltb (length (partBytes st)) (facts st .fewest)) 17
-    (cond (facts st .hasCheck && not (checksOut (partBytes st))) 18 behind))
+shuts-part : (eod : Bool) → shuts (shut eod) ≡ true
+shuts-part true = refl
+shuts-part false = refl
 
--- rows 12 and 15 ask for a bit or for the SOF's width
-neither : (sofPlace : Bool) (n : ℕ) → cond (sofPlace && false) 12 (cond (not sofPlace && false) 15 n) ≡ n
-neither true n = refl
-neither false n = refl
-
-eod-rows : (st : Standing) → fault st Eod ≡ rows st (cond (facts st .responding) 19 0)
-unfolding fault
-eod-rows st = neither (facts st .sofPlace) (rows st (cond (facts st .responding) 19 0))
-
-eof-rows : (st : Standing) → fault st Eof ≡ rows st 0
-unfolding fault
-eof-rows st = neither (facts st .sofPlace) (rows st 0)
-
-ifs-rows : (st : Standing) → fault st Ifs ≡ rows st 0
-unfolding fault
-ifs-rows st = neither (facts st .sofPlace) (rows st 0)
+-- 16, 17, 18 and 19, of the standing itself: it completes no bit
+shut-rows : (limit : ℕ) (st : Standing) (eod : Bool) → fault limit st (shut eod) ≡ shutting st eod
+shut-rows limit st eod = shut-fault limit st (shut eod) (shuts-part eod) ∙ ap (λ (x : Standing). shutting x eod) (counted-shut st eod)
 
 -- ## The machine's tests are those rows
 
@@ -90,38 +75,34 @@ close-judged st eod = rw (left-none (facts st .part), few-of st)
 
 -- ## From every standing
 
--- where no row but the last can hold, and nothing stands in the way of what is behind
-shut-does : (st : Standing) (s : Symbol) (eod : Bool) (n : ℕ) → fault st s ≡ rows st n
-    → (rows st n ≡ n → Does st s (cond eod (eodOf (holding st)) (closing (holding st))))
-    → Does st s (closeOf (holding st) eod)
-shut-does st s eod n row on =
+-- where no row but the last can hold, and nothing stands in the way of what comes after
+shut-does : (limit : ℕ) (st : Standing) (eod : Bool)
+    → (fault limit st (shut eod) ≡ cond (eod && facts st .responding) 19 0 → Does limit st (shut eod) (cond eod (eodOf (holding st)) (closing (holding st))))
+    → Does limit st (shut eod) (closeOf (holding st) eod)
+shut-does limit st eod on =
     rw (close-judged st eod)
     (go (whole (facts st .part)) (ltb (length (partBytes st)) (facts st .fewest)) (facts st .hasCheck && not (checksOut (partBytes st))) refl refl refl)
   where
     go : (A B C : Bool) → whole (facts st .part) ≡ A → ltb (length (partBytes st)) (facts st .fewest) ≡ B
-        → (facts st .hasCheck && not (checksOut (partBytes st))) ≡ C → Does st s (judged st eod)
-    go false B C p q r = faults SplitByte (row ∙ rw p) (rw p)
-    go true true C p q r = faults FewBytes (row ∙ rw (p, q)) (rw (p, q))
-    go true false true p q r = faults WrongCheck (row ∙ rw (p, q, r)) (rw (p, q, wrong-of st q, r))
-    go true false false p q r = rw (p, q, wrong-of st q, r) (on (rw (p, q, r)))
+        → (facts st .hasCheck && not (checksOut (partBytes st))) ≡ C → Does limit st (shut eod) (judged st eod)
+    go false B C p q r = faults SplitByte (shut-rows limit st eod ∙ rw p) (rw p)
+    go true true C p q r = faults FewBytes (shut-rows limit st eod ∙ rw (p, q)) (rw (p, q))
+    go true false true p q r = faults WrongCheck (shut-rows limit st eod ∙ rw (p, q, r)) (rw (p, q, wrong-of st q, r))
+    go true false false p q r = rw (p, q, wrong-of st q, r) (on (shut-rows limit st eod ∙ rw (p, q, r)))
 
 -- An end closes the frame.
-pub eof-does : (st : Standing) → Does st Eof (closeOf (holding st) false)
-eof-does st = shut-does st Eof false 0 (eof-rows st) (λ e. closes (eof-rows st ∙ e) refl refl)
+pub end-does : (limit : ℕ) (st : Standing) → Does limit st (shut false) (closeOf (holding st) false)
+end-does limit st = shut-does limit st false (λ f. closes f refl refl (counted-shut st false))
 
--- The other end, an IFS, does the same.
-pub ifs-does : (st : Standing) → Does st Ifs (closeOf (holding st) false)
-ifs-does st = shut-does st Ifs false 0 (ifs-rows st) (λ e. closes (ifs-rows st ∙ e) refl refl)
-
--- An EOD goes on to the response, or is at fault behind one.
-behind-eod : (st : Standing) → fault st Eod ≡ cond (facts st .responding) 19 0 → Does st Eod (eodOf (holding st))
+-- An EOD goes on to the response, or is at fault after one.
+after-eod : (limit : ℕ) (st : Standing) → fault limit st (shut true) ≡ cond (facts st .responding) 19 0 → Does limit st (shut true) (eodOf (holding st))
 unfolding holding leftOver behind registerFrom bytes
-behind-eod atSof f = goes f refl refl refl
-behind-eod (inMain m) f = goes f refl (rw (append-nil (bytes m))) refl
-behind-eod (atNormalization m) f = goes f refl (rw (append-nil (bytes m))) refl
-behind-eod (inResponse plain m r) f = faults EodAfterResponse f refl
-behind-eod (inResponse checked m r) f = faults EodAfterResponse f refl
+after-eod limit atSof f = goes f refl refl refl
+after-eod limit (inMain m) f = goes f refl (rw (append-nil m, append-nil (bytes m))) (rw (append-nil m))
+after-eod limit (atNormalization m) f = goes f refl (rw (append-nil (bytes m))) refl
+after-eod limit (inResponse plain m r) f = faults EodAfterResponse f refl
+after-eod limit (inResponse checked m r) f = faults EodAfterResponse f refl
 
 -- An EOD, from every standing.
-pub eod-does : (st : Standing) → Does st Eod (closeOf (holding st) true)
-eod-does st = shut-does st Eod true (cond (facts st .responding) 19 0) (eod-rows st) (λ e. behind-eod st (eod-rows st ∙ e))
+pub eod-does : (limit : ℕ) (st : Standing) → Does limit st (shut true) (closeOf (holding st) true)
+eod-does limit st = shut-does limit st true (after-eod limit st)

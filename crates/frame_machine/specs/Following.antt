@@ -1,22 +1,17 @@
--- Following a frame interval by interval: what is known before each, and what the machine's event at one says of it.
-use Prim.Native.Nat.{ℕ, suc, _+_, _≤_, _<_}
+-- Following a frame interval by interval: what is known before each, and what the machine's event at one says of it. Nothing
+-- is said here of where the bytes are kept.
+use Prim.Native.Nat.{ℕ, _+_, _≤_, _<_}
 use mathlib.Core.Path.{_≡_, refl, sym, ap, subst, _∙_}
 use mathlib.Core.Bool.{Bool, true, false}
-use mathlib.Core.List.{List, [], _∷_, _++_}
+use mathlib.Core.List.{[], _∷_, _++_}
 use native.Mathlib.Omega.{arith}
-use lib.Dec.{eqb}
-use lib.ListN.{length, set, getD, length-append, length-set}
-use lib.Seq.{take-suc-set}
-use Rattle.symbol.specs.declared.Symbol.{Symbol}
-use Rattle.symbol.specs.Classes.{ends}
-use Rattle.symbol.specs.ClassLaws.{end-is}
+use lib.ListN.{length, length-append}
 use Rattle.frame.specs.declared.Fault.{Fault}
-use Rattle.frame.specs.declared.Fault.the-variants.{Noise, NoSof, Break, Stuck, LateSof, SplitByte, FewBytes, WrongCheck, EodAfterResponse, ThirteenthByte}
+use Rattle.frame.specs.declared.Sign.{Sign}
 use Rattle.frame.specs.Bits.{bytes}
-use Rattle.frame.specs.Line.{activeAt, symbolAt, endAt}
-use Rattle.frame.specs.Standing.{Standing, stands}
-use Rattle.frame.specs.StandingLaws.{after, stands-sof, stands-next}
-use Rattle.frame.specs.Faults.{mostBytes}
+use Rattle.frame.specs.Line.{Line, endAt}
+use Rattle.frame.specs.Standing.{counted, moved, stands}
+use Rattle.frame.specs.StandingLaws.{stands-sof, stands-next}
 use Rattle.frame.specs.Reading.{faultAt, decides}
 use Rattle.frame.specs.Answers.{faultNumber}
 use Rattle.frame_machine.specs.declared.Machine.{Machine}
@@ -24,111 +19,80 @@ use Rattle.frame_machine.specs.declared.Event.{Event}
 use Rattle.frame_machine.specs.declared.Event.the-variants.{Going, Byte, Closed, Faulty}
 use Rattle.frame_machine.specs.declared.Stepped.{Stepped}
 use Rattle.frame_machine.specs.Steps.{fresh, stepOf}
-use Rattle.frame_machine.specs.Holding.{soFar, holding, Kept}
-use Rattle.frame_machine.specs.HoldingLaws.{count-of, began-within, few-so-far}
+use Rattle.frame_machine.specs.Meaning.{meaningOf}
+use Rattle.frame_machine.specs.Holding.{soFar, holding}
+use Rattle.frame_machine.specs.HoldingLaws.{count-of, began-within}
 use Rattle.frame_machine.specs.Does.{Does, faults, closes, goes, stores}
-use Rattle.frame_machine.specs.StepDoes.{fresh-holds, step-does}
+use Rattle.frame_machine.specs.StepDoes.{some-fault, fresh-holds, step-does}
 
--- before the interval at k, in the frame that opens at o, the machine holds what stands before k, and the bytes so far are kept
-pub record Before (ws : List ℕ) (o k : ℕ) (m : Machine) (kept : List ℕ) : Type 0 where
+-- before the interval at k, in the frame that opens at o: the machine holds what stands before k, and there are no more bytes
+-- than a frame may have
+pub record Before (limit : ℕ) (l : Line) (o k : ℕ) (m : Machine) : Type 0 where
   pub opened : o < k
-  pub holds : m ≡ holding (stands ws o k)
-  pub keeps : Kept (stands ws o k) kept
+  pub few : length (soFar (stands l o k)) ≤ limit
+  pub holds : m ≡ holding (stands l o k)
 
--- At the SOF's place there is nothing yet, whatever the bytes kept aside hold.
-pub at-first : (ws : List ℕ) (o : ℕ) (m : Machine) (kept : List ℕ) → m ≡ fresh → length kept ≡ mostBytes → Before ws o (o + 1) m kept
+-- At the SOF's place there is nothing yet.
+pub at-first : (limit : ℕ) (l : Line) (o : ℕ) (m : Machine) → m ≡ fresh → Before limit l o (o + 1) m
 unfolding bytes
-at-first ws o m kept e h =
-    record {
-      opened = omega arith;
-      holds = e ∙ fresh-holds ∙ ap holding (sym (stands-sof ws o));
-      keeps = rw (stands-sof ws o) (record { room = h; first = refl });
-    }
-
--- ## The bytes kept
-
-keeps-same : (st st′ : Standing) (kept : List ℕ) → soFar st′ ≡ soFar st → Kept st kept → Kept st′ kept
-keeps-same st st′ kept e h = record { room = h .room; first = rw e (h .first) }
-
-keeps-more : (st st′ : Standing) (kept : List ℕ) (b : ℕ) → length (soFar st) < mostBytes → soFar st′ ≡ soFar st ++ (b ∷ [])
-    → Kept st kept → Kept st′ (set kept (length (soFar st)) b)
-keeps-more st st′ kept b few e h =
-    let fits : length (soFar st) < length kept = rw (h .room) few in
-    let longer : length (soFar st ++ (b ∷ [])) ≡ suc (length (soFar st)) = simp length-append (omega arith) in
-    record {
-      room = length-set kept (length (soFar st)) b ∙ h .room;
-      first = rw (e, longer, take-suc-set kept (length (soFar st)) b fits) (rw (h .first));
-    }
+at-first limit l o m e =
+    record { opened = omega arith; few = rw (stands-sof l o) (omega arith); holds = e ∙ fresh-holds ∙ ap holding (sym (stands-sof l o)) }
 
 -- ## What an event says of the interval at k
 
--- In the frame that opens at o, with n bytes before k: it decides nothing, and the machine m then holds what stands before the
--- next interval; or it closes the frame; or it is at the fault that the paper gives it.
-abbrev pub Says : Event → ℕ → List ℕ → ℕ → ℕ → Machine → List ℕ → Type 0
-Says Going n ws o k m kept = (decides ws o k ≡ false) × Before ws o (k + 1) m kept
-Says (Byte b) n ws o k m kept = (decides ws o k ≡ false) × ((n < mostBytes) × Before ws o (k + 1) m (set kept n b))
-Says Closed n ws o k m kept = (decides ws o k ≡ true) × ((faultAt ws o k ≡ 0) × Before ws o k m kept)
-Says (Faulty f) n ws o k m kept = (decides ws o k ≡ true) × (faultAt ws o k ≡ faultNumber f)
+-- In the frame that opens at o: it decides nothing, and the machine m then holds what stands before the next interval, the
+-- bytes as they were or with one more; or it closes the frame, completes no bit, and m holds the parts; or it is at the fault that the paper
+-- gives it.
+abbrev pub Says : Event → (limit : ℕ) → Line → (o k : ℕ) → Machine → Type 0
+Says Going limit l o k m =
+    (decides limit l o k ≡ false) × (Before limit l o (k + 1) m × (soFar (stands l o (k + 1)) ≡ soFar (stands l o k)))
+Says (Byte b) limit l o k m =
+    (decides limit l o k ≡ false)
+    × (Before limit l o (k + 1) m × ((length (soFar (stands l o k)) < limit) × (soFar (stands l o (k + 1)) ≡ soFar (stands l o k) ++ (b ∷ []))))
+Says Closed limit l o k m =
+    (decides limit l o k ≡ true)
+    × ((faultAt limit l o k ≡ 0) × ((m ≡ holding (stands l o k)) × (counted (stands l o k) (l .shows k) ≡ stands l o k)))
+Says (Faulty f) limit l o k m = (decides limit l o k ≡ true) × (faultAt limit l o k ≡ faultNumber f)
 
--- No fault has the number 0.
-pub some-fault : (f : Fault) → eqb (faultNumber f) 0 ≡ false
-some-fault Noise = refl
-some-fault NoSof = refl
-some-fault Break = refl
-some-fault Stuck = refl
-some-fault LateSof = refl
-some-fault SplitByte = refl
-some-fault FewBytes = refl
-some-fault WrongCheck = refl
-some-fault EodAfterResponse = refl
-some-fault ThirteenthByte = refl
-
-end-at : (ws : List ℕ) (k : ℕ) → endAt ws k ≡ ends (symbolAt ws k)
-unfolding endAt symbolAt
-end-at ws k = end-is (activeAt k) (getD ws k 0)
-
-decides-fault : (ws : List ℕ) (o k : ℕ) (f : Fault) → faultAt ws o k ≡ faultNumber f → decides ws o k ≡ true
+decides-fault : (limit : ℕ) (l : Line) (o k : ℕ) (f : Fault) → faultAt limit l o k ≡ faultNumber f → decides limit l o k ≡ true
 unfolding decides
-decides-fault ws o k f e = rw (e, some-fault f)
+decides-fault limit l o k f e = rw (e, some-fault f)
 
-decides-end : (ws : List ℕ) (o k : ℕ) (b : Bool) → faultAt ws o k ≡ 0 → ends (symbolAt ws k) ≡ b → decides ws o k ≡ b
+decides-end : (limit : ℕ) (l : Line) (o k : ℕ) (b : Bool) → faultAt limit l o k ≡ 0 → endAt l k ≡ b → decides limit l o k ≡ b
 unfolding decides
-decides-end ws o k b e g = rw (e, end-at ws k, g)
+decides-end limit l o k b e g = rw (e, g)
 
-module _ (ws : List ℕ) (o k : ℕ) (m : Machine) (kept : List ℕ) (v : Before ws o k m kept) where
-  on-to : (m′ : Machine) (kept′ : List ℕ) → m′ ≡ holding (after (stands ws o k) (symbolAt ws k))
-      → Kept (after (stands ws o k) (symbolAt ws k)) kept′ → Before ws o (k + 1) m′ kept′
-  on-to m′ kept′ e h =
-      let step : stands ws o (k + 1) ≡ after (stands ws o k) (symbolAt ws k) = stands-next ws o k (v .opened) in
-      record { opened = omega (arith, v .opened); holds = e ∙ ap holding (sym step); keeps = rw step h }
+module _ (limit : ℕ) (l : Line) (o k : ℕ) (m : Machine) (v : Before limit l o k m) where
+  next-stands : stands l o (k + 1) ≡ moved (stands l o k) (l .shows k)
+  next-stands = stands-next l o k (v .opened)
 
-  count-is : m .count ≡ length (soFar (stands ws o k))
-  count-is = ap (λ (x : Machine). x .count) (v .holds) ∙ count-of (stands ws o k)
+  on-to : (m′ : Machine) → m′ ≡ holding (moved (stands l o k) (l .shows k)) → length (soFar (moved (stands l o k) (l .shows k))) ≤ limit
+      → Before limit l o (k + 1) m′
+  on-to m′ e h = record { opened = omega (arith, v .opened); few = rw next-stands h; holds = e ∙ ap holding (sym next-stands) }
 
-  -- what the machine counts has room in the kept bytes, and the part begins within it
-  pub held-few : m .count ≤ mostBytes
-  held-few = omega (arith, count-is, few-so-far (stands ws o k) kept (v .keeps))
+  -- it counts the bytes that stand before the interval
+  pub count-is : m .count ≡ length (soFar (stands l o k))
+  count-is = ap (λ (x : Machine). x .count) (v .holds) ∙ count-of (stands l o k)
 
-  -- no part begins behind the bytes counted
+  -- what the machine counts is no more than a frame may have
+  pub held-few : m .count ≤ limit
+  held-few = omega (arith, count-is, v .few)
+
+  -- no part begins after the bytes counted
   pub held-began : m .began ≤ m .count
-  held-began = rw (v .holds) (began-within (stands ws o k))
+  held-began = rw (v .holds) (began-within (stands l o k))
 
-  says : Does (stands ws o k) (symbolAt ws k) (stepOf m (symbolAt ws k))
-      → Says (stepOf m (symbolAt ws k) .event) (m .count) ws o k (stepOf m (symbolAt ws k) .machine) kept
-  says (faults f e r) = rw r (decides-fault ws o k f e, e)
-  says (closes e g r) =
-      rw r (decides-end ws o k true e g, (e, record { opened = v .opened; holds = refl; keeps = v .keeps }))
-  says (goes e g r a) =
-      rw r (decides-end ws o k false e g, on-to _ _ refl (keeps-same (stands ws o k) (after (stands ws o k) (symbolAt ws k)) kept a (v .keeps)))
-  says (stores b e g r few a) =
-      rw (r, count-is) (decides-end ws o k false e g, (few, on-to _ _ refl (keeps-more (stands ws o k) (after (stands ws o k) (symbolAt ws k)) kept b few a (v .keeps))))
+  says : (r : Stepped) → Does limit (stands l o k) (l .shows k) r → Says (r .event) limit l o k (r .machine)
+  says r (faults f e g) = rw g (decides-fault limit l o k f e, e)
+  says r (closes e g h a) = rw h (decides-end limit l o k true e g, (e, (refl, a)))
+  says r (goes e g h a) = rw h (decides-end limit l o k false e g, (on-to _ refl (rw a (v .few)), rw next-stands a))
+  says r (stores b e g h few a) =
+      let longer : length (soFar (stands l o k) ++ (b ∷ [])) ≡ length (soFar (stands l o k)) + 1 = length-append (soFar (stands l o k)) (b ∷ []) in
+      rw h (decides-end limit l o k false e g, (on-to _ refl (rw a (omega (arith, longer, few))), (few, rw next-stands a)))
 
-  does-here : Does (stands ws o k) (symbolAt ws k) (stepOf m (symbolAt ws k))
-  does-here = rw (v .holds) (step-does (stands ws o k) (symbolAt ws k) (few-so-far (stands ws o k) kept (v .keeps)))
-
-  -- One interval more: the machine is told the symbol at k, and answers with the event e.
-  pub says-by : (s : Symbol) (r : Stepped) (e : Event) → s ≡ symbolAt ws k → r ≡ stepOf m s → r .event ≡ e → Says e (m .count) ws o k (r .machine) kept
+  -- One interval more: the machine is told what place k shows, and answers with the event e.
+  pub says-by : (s : Sign) (r : Stepped) (e : Event) → meaningOf s ≡ l .shows k → r ≡ stepOf limit m s → r .event ≡ e → Says e limit l o k (r .machine)
   says-by s r e same made gave =
-      let whole : r ≡ stepOf m (symbolAt ws k) = made ∙ ap (stepOf m) same in
-      subst (λ (x : Event). Says x (m .count) ws o k (r .machine) kept) gave
-      (subst (λ (x : Stepped). Says (x .event) (m .count) ws o k (x .machine) kept) (sym whole) (says does-here))
+      let does : Does limit (stands l o k) (meaningOf s) (stepOf limit (holding (stands l o k)) s) = step-does limit (stands l o k) s (v .few) in
+      let whole : stepOf limit (holding (stands l o k)) s ≡ r = ap (λ (x : Machine). stepOf limit x s) (sym (v .holds)) ∙ sym made in
+      subst (λ (x : Event). Says x limit l o k (r .machine)) gave (says r (rw (same, whole) at does))

@@ -1,14 +1,13 @@
 -- What the machine holds before an interval: all of it is read off where the interval stands in document 01's sense.
 use Prim.Native.Nat.{ℕ, _+_}
-use mathlib.Core.Path.{_≡_}
 use mathlib.Core.Bool.{Bool}
 use mathlib.Core.List.{List, [], _++_}
-use lib.ListN.{length, take}
+use lib.ListN.{length}
 use Rattle.checkbyte.specs.Register.{registerOf}
 use Rattle.frame.specs.Bits.{bytes}
 use Rattle.frame.specs.BitLaws.{leftOver, behind}
 use Rattle.frame.specs.Standing.{plain, checked, Standing, atSof, inMain, atNormalization, inResponse}
-use Rattle.frame.specs.Faults.{mostBytes, facts, mainBytes, responseBytes}
+use Rattle.frame.specs.Faults.{facts, mainBytes, responseBytes}
 use Rattle.frame_machine.specs.declared.Phase.{Phase}
 use Rattle.frame_machine.specs.declared.Phase.the-variants.{Sof, Main, Normalization, Plain, Checked}
 use Rattle.frame_machine.specs.declared.Machine.{Machine}
@@ -40,8 +39,3 @@ holdingBy phase part before all =
 -- the machine that holds what stands before an interval
 unfoldable pub holding : Standing → Machine
 holding st = holdingBy (phaseOf st) (facts st .part) (earlier st) (soFar st)
-
--- The bytes that are kept aside for the frame: twelve, and the bytes so far stand first.
-pub record Kept (st : Standing) (kept : List ℕ) : Type 0 where
-  pub room : length kept ≡ mostBytes
-  pub first : take (length (soFar st)) kept ≡ soFar st

@@ -1,14 +1,14 @@
 -- How the numbers that the machine holds hang together: it counts the bytes so far, which are those before the part and
--- the part's own, and the kept bytes have room for them.
-use Prim.Native.Nat.{ℕ, _+_, _≤_}
+-- the part's own.
+use Prim.Native.Nat.{_+_, _≤_}
 use mathlib.Core.Path.{_≡_, refl, ap, _∙_}
-use mathlib.Core.List.{List, _++_, append-nil}
+use mathlib.Core.List.{_++_, append-nil}
 use native.Mathlib.Omega.{arith}
-use lib.ListN.{length, length-append, length-take}
+use lib.ListN.{length, length-append}
 use Rattle.frame.specs.Bits.{bytes}
 use Rattle.frame.specs.Standing.{plain, checked, Standing, atSof, inMain, atNormalization, inResponse}
-use Rattle.frame.specs.Faults.{mostBytes, partBytes}
-use Rattle.frame_machine.specs.Holding.{earlier, soFar, holding, Kept}
+use Rattle.frame.specs.Faults.{partBytes}
+use Rattle.frame_machine.specs.Holding.{earlier, soFar, holding}
 
 -- It counts the bytes of both parts so far.
 pub count-of : (st : Standing) → holding st .count ≡ length (soFar st)
@@ -28,7 +28,3 @@ parts (inResponse checked m r) = refl
 pub began-within : (st : Standing) → holding st .began ≤ holding st .count
 unfolding holding
 began-within st = omega (arith, ap length (parts st) ∙ length-append (earlier st) (partBytes st))
-
--- What is kept so far is no more than twelve bytes.
-pub few-so-far : (st : Standing) (kept : List ℕ) → Kept st kept → length (soFar st) ≤ mostBytes
-few-so-far st kept h = omega (arith, h .room, simp length-take at (ap length (h .first)))

@@ -1,4 +1,5 @@
 pub mod Steps
+pub mod Meaning
 pub mod Holding
 pub mod HoldingLaws
 pub mod ResidueLaws
@@ -10,4 +11,5 @@ pub mod Laying
 pub mod Parts
 pub mod PartLaws
 pub mod Following
+pub mod Keeping
 pub mod Room

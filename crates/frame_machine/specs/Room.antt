@@ -1,4 +1,4 @@
--- The machine tells of a byte only where the kept bytes have room for it: a frame of twelve bytes takes no bit more.
+-- The machine tells of a byte only where a frame may have it: one with as many bytes as it may have takes no bit more.
 use Prim.Native.Nat.{ℕ, _+_, _≤_, _<_}
 use mathlib.Core.Path.{_≡_, refl}
 use mathlib.Core.Bool.{Bool, true, false, cond, not, _&&_}
@@ -6,11 +6,10 @@ use mathlib.Core.Logic.{_⊎_, inl, inr}
 use native.Mathlib.Omega.{arith}
 use lib.Dec.{eqb, ltb}
 use Rattle.laws.specs.Tests.{upTo}
-use Rattle.symbol.specs.declared.Symbol.{Symbol}
-use Rattle.symbol.specs.declared.Symbol.the-variants.{Noise, Bit0, Bit1, Eod, Sof as SofWidth, Eof, Ifs, Break, Stuck}
 use Rattle.checkbyte.specs.Register.{residue}
 use Rattle.frame.specs.declared.Fault.the-variants.{NoSof, LateSof, SplitByte, FewBytes, WrongCheck, ThirteenthByte}
-use Rattle.frame.specs.Faults.{mostBytes}
+use Rattle.frame.specs.declared.Sign.{Sign}
+use Rattle.frame.specs.declared.Sign.the-variants.{Bit, Shut, Sof as Start, Wrong}
 use Rattle.frame_machine.specs.declared.Phase.{Phase}
 use Rattle.frame_machine.specs.declared.Phase.the-variants.{Sof, Main, Normalization, Plain, Checked}
 use Rattle.frame_machine.specs.declared.Machine.{Machine}
@@ -38,11 +37,11 @@ at-eod Normalization m = refl
 at-eod Plain m = refl
 at-eod Checked m = refl
 
-module _ (m : Machine) (full : mostBytes ≤ m .count) where
-  of-bit : (one : Bool) → tells (bitOf m one .event) ≡ false
+module _ (limit : ℕ) (m : Machine) (full : limit ≤ m .count) where
+  of-bit : (one : Bool) → tells (bitOf limit m one .event) ≡ false
   unfolding bitOf
   of-bit one =
-      rw (push-full m one full)
+      rw (push-full limit m one full)
       (either (partOf (m .phase)) (faulty m ThirteenthByte) _ refl (either (sofPhase (m .phase)) (faulty m NoSof) _ refl (either one (begun m Plain) (begun m Checked) refl refl)))
 
   of-shut : (eod : Bool) → tells (closeOf m eod .event) ≡ false
@@ -53,22 +52,17 @@ module _ (m : Machine) (full : mostBytes ≤ m .count) where
       (either (askedOf (m .phase) .checked && not (eqb (m .register) residue)) (faulty m WrongCheck) _ refl
       (either eod (eodOf m) (closing m) (at-eod (m .phase) m) refl)))
 
-  of-symbol : (s : Symbol) → tells (stepOf m s .event) ≡ false
+  of-sign : (s : Sign) → tells (stepOf limit m s .event) ≡ false
   unfolding sofOf
-  of-symbol Noise = refl
-  of-symbol Bit0 = of-bit false
-  of-symbol Bit1 = of-bit true
-  of-symbol Eod = of-shut true
-  of-symbol SofWidth = either (sofPhase (m .phase)) (begun m Main) (faulty m LateSof) refl refl
-  of-symbol Eof = of-shut false
-  of-symbol Ifs = of-shut false
-  of-symbol Break = refl
-  of-symbol Stuck = refl
+  of-sign (Bit one) = of-bit one
+  of-sign (Shut eod) = of-shut eod
+  of-sign Start = either (sofPhase (m .phase)) (begun m Main) (faulty m LateSof) refl refl
+  of-sign (Wrong f) = refl
 
--- A byte that the machine tells of is one of the frame's first twelve.
-pub has-room : (m : Machine) (s : Symbol) (t : Stepped) (b : ℕ) → t ≡ stepOf m s → t .event ≡ Byte b → m .count < mostBytes
-has-room m s t b e g = go (upTo mostBytes (m .count))
+-- A byte that the machine tells of is one that the frame may have.
+pub has-room : (limit : ℕ) (m : Machine) (s : Sign) (t : Stepped) (b : ℕ) → t ≡ stepOf limit m s → t .event ≡ Byte b → m .count < limit
+has-room limit m s t b e g = go (upTo limit (m .count))
   where
-    go : (mostBytes ≤ m .count) ⊎ (m .count < mostBytes) → m .count < mostBytes
-    go (inl h) = let z : _≡_ {A = ℕ} 0 1 = cc (of-symbol m h s) in absurd (omega arith)
+    go : (limit ≤ m .count) ⊎ (m .count < limit) → m .count < limit
+    go (inl h) = let z : _≡_ {A = ℕ} 0 1 = cc (of-sign limit m h s) in absurd (omega arith)
     go (inr h) = h

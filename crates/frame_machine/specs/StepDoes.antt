@@ -1,44 +1,61 @@
--- One symbol more, from every standing, by every symbol.
-use Prim.Native.Nat.{_≤_}
+-- One interval more, from every standing, by every sign.
+use Prim.Native.Nat.{ℕ, _≤_}
 use mathlib.Core.Path.{_≡_, refl}
 use mathlib.Core.Bool.{true, false}
 use lib.ListN.{length}
-use Rattle.symbol.specs.declared.Symbol.{Symbol}
-use Rattle.symbol.specs.declared.Symbol.the-variants.{Noise as NoiseWidth, Bit0, Bit1, Eod, Sof as SofWidth, Eof, Ifs, Break as BreakWidth, Stuck as StuckWidth}
+use lib.Dec.{eqb}
 use Rattle.checkbyte.specs.Register.{registerFrom}
-use Rattle.frame.specs.declared.Fault.the-variants.{Noise, Break, Stuck, LateSof}
+use Rattle.frame.specs.declared.Fault.{Fault}
+use Rattle.frame.specs.declared.Fault.the-variants.{Noise, NoSof, Break, Stuck, LateSof, SplitByte, FewBytes, WrongCheck, EodAfterResponse, ThirteenthByte}
+use Rattle.frame.specs.declared.Sign.{Sign}
+use Rattle.frame.specs.declared.Sign.the-variants.{Bit, Shut, Sof, Wrong}
+use Rattle.frame.specs.Signs.{wrong, sof}
 use Rattle.frame.specs.Bits.{bytes}
 use Rattle.frame.specs.BitLaws.{leftOver, behind}
 use Rattle.frame.specs.Standing.{plain, checked, Standing, atSof, inMain, atNormalization, inResponse}
-use Rattle.frame.specs.Faults.{mostBytes, fault}
-use Rattle.frame_machine.specs.Steps.{sofOf, stepOf, fresh}
+use Rattle.frame.specs.Faults.{fault}
+use Rattle.frame.specs.Answers.{faultNumber}
+use Rattle.frame_machine.specs.Steps.{faulty, sofOf, stepOf, fresh}
+use Rattle.frame_machine.specs.Meaning.{meaningOf}
 use Rattle.frame_machine.specs.Holding.{soFar, holding}
 use Rattle.frame_machine.specs.Does.{Does, faults, goes}
 use Rattle.frame_machine.specs.BitDoes.{bit-does}
-use Rattle.frame_machine.specs.CloseDoes.{eod-does, eof-does, ifs-does}
+use Rattle.frame_machine.specs.CloseDoes.{eod-does, end-does}
+
+-- No fault has the number 0.
+pub some-fault : (f : Fault) → eqb (faultNumber f) 0 ≡ false
+some-fault Noise = refl
+some-fault NoSof = refl
+some-fault Break = refl
+some-fault Stuck = refl
+some-fault LateSof = refl
+some-fault SplitByte = refl
+some-fault FewBytes = refl
+some-fault WrongCheck = refl
+some-fault EodAfterResponse = refl
+some-fault ThirteenthByte = refl
 
 -- The machine starts with what stands before the SOF: nothing.
 pub fresh-holds : fresh ≡ holding atSof
 unfolding holding leftOver behind registerFrom bytes
 fresh-holds = refl
 
-sof-does : (st : Standing) → Does st SofWidth (sofOf (holding st))
+sof-does : (limit : ℕ) (st : Standing) → Does limit st sof (sofOf (holding st))
 unfolding sofOf fault holding leftOver behind registerFrom bytes
-sof-does atSof = goes refl refl refl refl
-sof-does (inMain m) = faults LateSof refl refl
-sof-does (atNormalization m) = faults LateSof refl refl
-sof-does (inResponse plain m r) = faults LateSof refl refl
-sof-does (inResponse checked m r) = faults LateSof refl refl
+sof-does limit atSof = goes refl refl refl refl
+sof-does limit (inMain m) = faults LateSof refl refl
+sof-does limit (atNormalization m) = faults LateSof refl refl
+sof-does limit (inResponse plain m r) = faults LateSof refl refl
+sof-does limit (inResponse checked m r) = faults LateSof refl refl
 
--- The step does what document 01 says, from every standing and by every symbol.
-pub step-does : (st : Standing) (s : Symbol) → length (soFar st) ≤ mostBytes → Does st s (stepOf (holding st) s)
+wrong-does : (limit : ℕ) (st : Standing) (f : Fault) → Does limit st (wrong (faultNumber f)) (faulty (holding st) f)
 unfolding fault
-step-does st NoiseWidth h = faults Noise refl refl
-step-does st Bit0 h = bit-does st false h
-step-does st Bit1 h = bit-does st true h
-step-does st Eod h = eod-does st
-step-does st SofWidth h = sof-does st
-step-does st Eof h = eof-does st
-step-does st Ifs h = ifs-does st
-step-does st BreakWidth h = faults Break refl refl
-step-does st StuckWidth h = faults Stuck refl refl
+wrong-does limit st f = faults f (rw (some-fault f)) refl
+
+-- The step does what document 01 says, from every standing and by every sign.
+pub step-does : (limit : ℕ) (st : Standing) (s : Sign) → length (soFar st) ≤ limit → Does limit st (meaningOf s) (stepOf limit (holding st) s)
+step-does limit st (Bit one) h = bit-does limit st one h
+step-does limit st (Shut true) h = eod-does limit st
+step-does limit st (Shut false) h = end-does limit st
+step-does limit st Sof h = sof-does limit st
+step-does limit st (Wrong f) h = wrong-does limit st f

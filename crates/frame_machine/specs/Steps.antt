@@ -7,16 +7,15 @@ use Rattle.symbol.specs.declared.Symbol.the-variants.{Noise as NoiseWidth, Bit0
 use Rattle.checkbyte.specs.Register.{allOnes, residue, stepOf as registerStep}
 use Rattle.frame.specs.declared.Fault.{Fault}
 use Rattle.frame.specs.declared.Fault.the-variants.{Noise, NoSof, Break, Stuck, LateSof, SplitByte, FewBytes, WrongCheck, EodAfterResponse, ThirteenthByte}
+use Rattle.frame.specs.declared.Sign.{Sign}
+use Rattle.frame.specs.declared.Sign.the-variants.{Bit, Shut, Sof as Start, Wrong}
 use Rattle.frame.specs.Bits.{value}
-use Rattle.frame.specs.Faults.{mostBytes}
 use Rattle.frame_machine.specs.declared.Phase.{Phase}
 use Rattle.frame_machine.specs.declared.Phase.the-variants.{Sof, Main, Normalization, Plain, Checked}
 use Rattle.frame_machine.specs.declared.Machine.{Machine}
 use Rattle.frame_machine.specs.declared.Event.the-variants.{Going, Byte, Closed, Faulty}
 use Rattle.frame_machine.specs.declared.Stepped.{Stepped}
 use Rattle.frame_machine.specs.declared.shut.Asked.{Asked}
-use Rattle.frame_machine.specs.declared.Meaning.{Meaning}
-use Rattle.frame_machine.specs.declared.Meaning.the-variants.{Bit, Shut, Sof as Start, Wrong}
 
 -- the machine before the SOF
 abbrev pub fresh : Machine
@@ -48,9 +47,9 @@ pushed m bits =
       event = Byte (bits - 256);
     })
 
--- the same in a frame that may be full: twelve whole bytes take no bit more
-unfoldable pub pushOf : Machine → Bool → Stepped
-pushOf m one = cond (leb mostBytes (m .count)) (faulty m ThirteenthByte) (pushed m (m .partial * 2 + value one))
+-- the same in a frame that may be full: as many whole bytes as it may have take no bit more
+unfoldable pub pushOf : (limit : ℕ) → Machine → Bool → Stepped
+pushOf limit m one = cond (leb limit (m .count)) (faulty m ThirteenthByte) (pushed m (m .partial * 2 + value one))
 
 -- the normalization bit: a short one, which is a 1, begins a plain response
 abbrev pub responseBegun : Machine → Bool → Stepped
@@ -73,8 +72,8 @@ sofPhase Plain = false
 sofPhase Checked = false
 
 -- a bit's width, by where it stands
-unfoldable pub bitOf : Machine → Bool → Stepped
-bitOf m one = cond (partOf (m .phase)) (pushOf m one) (cond (sofPhase (m .phase)) (faulty m NoSof) (responseBegun m one))
+unfoldable pub bitOf : (limit : ℕ) → Machine → Bool → Stepped
+bitOf limit m one = cond (partOf (m .phase)) (pushOf limit m one) (cond (sofPhase (m .phase)) (faulty m NoSof) (responseBegun m one))
 
 -- the SOF's width: the SOF, or a fault anywhere behind it
 unfoldable pub sofOf : Machine → Stepped
@@ -95,7 +94,7 @@ askedOf Checked = asking 2 true
 -- an EOD that is not at fault itself: a response may follow the main part, and nothing follows a response
 abbrev pub eodIn : Phase → Machine → Stepped
 eodIn Sof m = begun m Main
-eodIn Normalization m = begun m Checked
+eodIn Normalization m = begun m Normalization
 eodIn Main m = begun m Normalization
 eodIn Plain m = faulty m EodAfterResponse
 eodIn Checked m = faulty m EodAfterResponse
@@ -112,25 +111,21 @@ closeOf m eod =
     (cond (askedOf (m .phase) .checked && not (eqb (m .register) residue)) (faulty m WrongCheck)
     (cond eod (eodOf m) (closing m))))
 
--- what a symbol means inside a frame
-abbrev pub meaningOf : Symbol → Meaning
-meaningOf NoiseWidth = Wrong Noise
-meaningOf Bit0 = Bit false
-meaningOf Bit1 = Bit true
-meaningOf Eod = Shut true
-meaningOf SofWidth = Start
-meaningOf Eof = Shut false
-meaningOf Ifs = Shut false
-meaningOf BreakWidth = Wrong Break
-meaningOf StuckWidth = Wrong Stuck
+-- what a symbol shows inside a frame
+abbrev pub signFor : Symbol → Sign
+signFor NoiseWidth = Wrong Noise
+signFor Bit0 = Bit false
+signFor Bit1 = Bit true
+signFor Eod = Shut true
+signFor SofWidth = Start
+signFor Eof = Shut false
+signFor Ifs = Shut false
+signFor BreakWidth = Wrong Break
+signFor StuckWidth = Wrong Stuck
 
--- what a meaning does
-abbrev pub stepBy : Machine → Meaning → Stepped
-stepBy m (Bit one) = bitOf m one
-stepBy m (Shut eod) = closeOf m eod
-stepBy m Start = sofOf m
-stepBy m (Wrong f) = faulty m f
-
--- one symbol more
-abbrev pub stepOf : Machine → Symbol → Stepped
-stepOf m s = stepBy m (meaningOf s)
+-- one interval more, by what it shows, in a frame of at most `limit` bytes
+abbrev pub stepOf : (limit : ℕ) → Machine → Sign → Stepped
+stepOf limit m (Bit one) = bitOf limit m one
+stepOf limit m (Shut eod) = closeOf m eod
+stepOf limit m Start = sofOf m
+stepOf limit m (Wrong f) = faulty m f

@@ -1,5 +1,6 @@
-// The frame machine. It is told the symbols behind an opening, one after the other, and says of each whether the frame
-// goes on, has one byte more, is closed, or is at fault. It sees no widths and keeps no bytes: whoever drives it does.
+// The frame machine. It is told what the intervals after an opening show, one after the other, and says of each whether the
+// frame goes on, has one byte more, is closed, or is at fault. It sees no widths and keeps no bytes: whoever drives it does.
+// How many bytes a frame may have it is told as well.
 mod parts;
 mod shut;
 
@@ -9,8 +10,9 @@ pub use parts::parts_of;
 ghost use mathlib.Core.Path.{_≡_};
 ghost use Prim.Native.Nat.{_<_};
 ghost use Rattle.frame.specs.Bits.{value};
-ghost use Rattle.frame_machine.specs.Steps.{faulty, begun, pushOf, responseBegun, partOf, sofPhase, bitOf, sofOf, meaningOf, stepOf, fresh};
+ghost use Rattle.frame_machine.specs.Steps.{faulty, begun, pushOf, responseBegun, partOf, sofPhase, bitOf, sofOf, signFor, stepOf, fresh};
 use frame::Fault;
+use frame::Sign;
 use shut::close_part;
 use symbol::Symbol;
 
@@ -34,7 +36,7 @@ pub struct Machine {
     pub began: usize,
 }
 
-// What a symbol does to a frame.
+// What an interval does to a frame.
 pub enum Event {
     Going,
     Byte(u8),
@@ -42,24 +44,13 @@ pub enum Event {
     Faulty(Fault),
 }
 
-// What a symbol does, and what is known of the frame behind it. The event stands first, and `push`, `bit`, `sof` and
+// What an interval does, and what is known of the frame after it. The event stands first, and `push`, `bit`, `sof` and
 // `close_part` are each called from one place: so the compiler keeps all of it in registers, and reading is half as long as
 // it is otherwise.
 pub struct Stepped {
     pub event: Event,
     pub machine: Machine,
 }
-
-// What a symbol means inside a frame: a bit's width, an EOD or an end, the SOF's width, or what stands in no frame.
-enum Meaning {
-    Bit(bool),
-    Shut(bool),
-    Sof,
-    Wrong(Fault),
-}
-
-// All bytes of a frame together are at most so many.
-pub const MOST_BYTES: usize = 12;
 
 // A partial byte that has no bit yet, and what a whole byte's leading 1 counts.
 const NO_BITS: u8 = 1;
@@ -122,15 +113,15 @@ fn begin(machine: Machine, phase: Phase) -> Stepped
     }
 }
 
-// A bit of a byte, in either part: the first of a thirteenth byte, one that leaves the byte open, or its last.
-fn push(machine: Machine, one: bool) -> Stepped
-    ensures { λ r. ⌜ r ≡ pushOf machine one ⌝ }
+// A bit of a byte, in either part: the first of a byte too many, one that leaves the byte open, or its last.
+fn push(limit: usize, machine: Machine, one: bool) -> Stepped
+    ensures { λ r. ⌜ r ≡ pushOf limit machine one ⌝ }
 {
     let phase = machine.phase;
     let count = machine.count;
     let began = machine.began;
     let register = machine.register;
-    if MOST_BYTES <= count {
+    if limit <= count {
         return fail(machine, Fault::ThirteenthByte);
     }
     let bits = machine.partial as usize * 2 + number(one);
@@ -196,12 +187,12 @@ fn at_sof(phase: Phase) -> bool
 }
 
 // A bit's width: a bit of a byte, no SOF where one should be, or the normalization bit.
-fn bit(machine: Machine, one: bool) -> Stepped
-    ensures { λ r. ⌜ r ≡ bitOf machine one ⌝ }
+fn bit(limit: usize, machine: Machine, one: bool) -> Stepped
+    ensures { λ r. ⌜ r ≡ bitOf limit machine one ⌝ }
 {
     let phase = machine.phase;
     if in_part(phase) {
-        return push(machine, one);
+        return push(limit, machine, one);
     }
     if at_sof(phase) {
         return fail(machine, Fault::NoSof);
@@ -220,32 +211,31 @@ fn sof(machine: Machine) -> Stepped
     fail(machine, Fault::LateSof)
 }
 
-// What a symbol means inside a frame.
-fn meaning_of(symbol: Symbol) -> Meaning
-    ensures { λ r. ⌜ r ≡ meaningOf symbol ⌝ }
+// What a symbol shows inside a frame.
+pub fn sign_of(symbol: Symbol) -> Sign
+    ensures { λ r. ⌜ r ≡ signFor symbol ⌝ }
 {
     match symbol {
-        Symbol::Noise => Meaning::Wrong(Fault::Noise),
-        Symbol::Bit0 => Meaning::Bit(false),
-        Symbol::Bit1 => Meaning::Bit(true),
-        Symbol::Eod => Meaning::Shut(true),
-        Symbol::Sof => Meaning::Sof,
-        Symbol::Eof => Meaning::Shut(false),
-        Symbol::Ifs => Meaning::Shut(false),
-        Symbol::Break => Meaning::Wrong(Fault::Break),
-        Symbol::Stuck => Meaning::Wrong(Fault::Stuck),
+        Symbol::Noise => Sign::Wrong(Fault::Noise),
+        Symbol::Bit0 => Sign::Bit(false),
+        Symbol::Bit1 => Sign::Bit(true),
+        Symbol::Eod => Sign::Shut(true),
+        Symbol::Sof => Sign::Sof,
+        Symbol::Eof => Sign::Shut(false),
+        Symbol::Ifs => Sign::Shut(false),
+        Symbol::Break => Sign::Wrong(Fault::Break),
+        Symbol::Stuck => Sign::Wrong(Fault::Stuck),
     }
 }
 
-// One symbol more.
-pub fn step(machine: Machine, symbol: Symbol) -> Stepped
-    ensures { λ r. ⌜ r ≡ stepOf machine symbol ⌝ }
+// One interval more, in a frame of at most `limit` bytes.
+pub fn step(limit: usize, machine: Machine, sign: Sign) -> Stepped
+    ensures { λ r. ⌜ r ≡ stepOf limit machine sign ⌝ }
 {
-    let meaning = meaning_of(symbol);
-    match meaning {
-        Meaning::Bit(one) => bit(machine, one),
-        Meaning::Shut(eod) => close_part(machine, eod),
-        Meaning::Sof => sof(machine),
-        Meaning::Wrong(fault) => fail(machine, fault),
+    match sign {
+        Sign::Bit(one) => bit(limit, machine, one),
+        Sign::Shut(eod) => close_part(machine, eod),
+        Sign::Sof => sof(machine),
+        Sign::Wrong(fault) => fail(machine, fault),
     }
 }

@@ -3,10 +3,10 @@ ghost use mathlib.Core.Path.{_≡_};
 ghost use Prim.Native.Nat.{_-_};
 ghost use Rattle.frame_machine.specs.Laying.{laidOf};
 ghost use Rattle.frame_machine.specs.Parts.{alone, answered, partsOf};
-use crate::MOST_BYTES;
 use crate::Machine;
 use crate::Phase;
 use frame::Lengths;
+use frame::MOST_BYTES;
 use frame::Response;
 
 // How many bytes each part has, its check byte included, and what response there is.

@@ -85,7 +85,7 @@ fn behind_eod(machine: Machine) -> Stepped
     let phase = machine.phase;
     match phase {
         Phase::Sof => begin(machine, Phase::Main),
-        Phase::Normalization => begin(machine, Phase::Checked),
+        Phase::Normalization => begin(machine, Phase::Normalization),
         Phase::Main => begin(machine, Phase::Normalization),
         Phase::Plain => fail(machine, Fault::EodAfterResponse),
         Phase::Checked => fail(machine, Fault::EodAfterResponse),

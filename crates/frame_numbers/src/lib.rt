@@ -1,6 +1,5 @@
 // The numbers that answers are told by. Document 01 has one for each fault, for what is no fault, and for each refusal; and
-// since enums do not cross to other languages, each symbol and each kind of response has one too. The limits of a frame stand
-// here as well.
+// since enums do not cross to other languages, each symbol and each kind of response has one too.
 ghost use mathlib.Core.Path.{_≡_};
 ghost use Rattle.frame.specs.Answers.{faultNumber};
 ghost use Rattle.frame_numbers.specs.Numbers.{symbolNumber, kindNumber, kindOf};
@@ -23,11 +22,6 @@ pub const FEW_LENT: u32 = 32;
 pub const BAD_CLOCK: u32 = 36;
 
 pub const BAD_MESSAGE: u32 = 37;
-
-// The most bytes of a frame, its checks included, and the words that the longest one takes.
-pub const MOST_BYTES: usize = 12;
-
-pub const MOST_WORDS: usize = 101;
 
 // The numbers of the kinds of response.
 pub const WITHOUT: u32 = 0;

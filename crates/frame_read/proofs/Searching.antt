@@ -10,8 +10,10 @@ use lib.ListN.{length, getD}
 use borrow.Author.Tests.{eq-eqb, ne-eqb}
 use Rattle.symbol.specs.Classes.{endOf}
 use Rattle.laws.specs.Tests.{upTo}
-use Rattle.frame.specs.Line.{endAt, Found as FoundPlace, nowhere, at, first, firstIn, opening}
+use Rattle.frame.specs.Line.{single, endAt, Found as FoundPlace, nowhere, at, first, firstIn, opening}
+use Rattle.frame.specs.Faults.{mostBytes}
 use Rattle.frame.specs.Reading.{decides}
+use Rattle.frame.specs.ShownLaws.{end-width}
 use Rattle.frame.specs.FirstLaws.{IsFirst, first-at, first-empty}
 use Rattle.frame_read.specs.declared.Found.{Found}
 use Rattle.frame_read.specs.declared.Found.the-variants.{At, Nowhere}
@@ -24,52 +26,52 @@ first-here test i n b h e = let m : n - i ≡ suc (n - (i + 1)) = omega arith in
 
 -- ## The interval that decides
 
-pub decides-here : (ws : List ℕ) (o i : ℕ) (b : Bool) → i < length ws → decides ws o i ≡ b
-    → firstIn (decides ws o) i (length ws) ≡ cond b (at i) (firstIn (decides ws o) (i + 1) (length ws))
-decides-here ws o i b h e = first-here (decides ws o) i (length ws) b h e
+pub decides-here : (ws : List ℕ) (o i : ℕ) (b : Bool) → i < length ws → decides mostBytes (single ws) o i ≡ b
+    → firstIn (decides mostBytes (single ws) o) i (length ws) ≡ cond b (at i) (firstIn (decides mostBytes (single ws) o) (i + 1) (length ws))
+decides-here ws o i b h e = first-here (decides mostBytes (single ws) o) i (length ws) b h e
 
-pub decides-none : (ws : List ℕ) (o i : ℕ) → length ws ≤ i → firstIn (decides ws o) i (length ws) ≡ nowhere
-decides-none ws o i h = first-empty (decides ws o) i (length ws) h
+pub decides-none : (ws : List ℕ) (o i : ℕ) → length ws ≤ i → firstIn (decides mostBytes (single ws) o) i (length ws) ≡ nowhere
+decides-none ws o i h = first-empty (decides mostBytes (single ws) o) i (length ws) h
 
 -- ## The opening
 
-pub open-none : (ws : List ℕ) (i : ℕ) → length ws ≤ i → opening ws i ≡ nowhere
+pub open-none : (ws : List ℕ) (i : ℕ) → length ws ≤ i → opening (single ws) i ≡ nowhere
 unfolding opening
-open-none ws i h = first-empty (endAt ws) i (length ws) h
+open-none ws i h = first-empty (endAt (single ws)) i (length ws) h
 
 -- at an active place there is no end
-open-active : (ws : List ℕ) (i : ℕ) → i % 2 ≡ 1 → opening ws i ≡ opening ws (i + 1)
-unfolding opening endAt endOf
+open-active : (ws : List ℕ) (i : ℕ) → i % 2 ≡ 1 → opening (single ws) i ≡ opening (single ws) (i + 1)
+unfolding opening endOf
 open-active ws i e = go (upTo (length ws) i)
   where
-    go : (length ws ≤ i) ⊎ (i < length ws) → opening ws i ≡ opening ws (i + 1)
-    go (inl h) = first-empty (endAt ws) i (length ws) h ∙ sym (first-empty (endAt ws) (i + 1) (length ws) (omega arith))
-    go (inr h) = first-here (endAt ws) i (length ws) false h (rw (eq-eqb (i % 2) 1 e))
+    go : (length ws ≤ i) ⊎ (i < length ws) → opening (single ws) i ≡ opening (single ws) (i + 1)
+    go (inl h) = first-empty (endAt (single ws)) i (length ws) h ∙ sym (first-empty (endAt (single ws)) (i + 1) (length ws) (omega arith))
+    go (inr h) = first-here (endAt (single ws)) i (length ws) false h (end-width ws i ∙ rw (eq-eqb (i % 2) 1 e))
 
 -- the search starts at an even place
-pub open-even : (ws : List ℕ) (p : ℕ) → opening ws p ≡ opening ws (p + p % 2)
+pub open-even : (ws : List ℕ) (p : ℕ) → opening (single ws) p ≡ opening (single ws) (p + p % 2)
 open-even ws p = go (p % 2) refl
   where
-    go : (r : ℕ) → p % 2 ≡ r → opening ws p ≡ opening ws (p + r)
-    go zero e = ap (opening ws) (sym (add-zero p))
+    go : (r : ℕ) → p % 2 ≡ r → opening (single ws) p ≡ opening (single ws) (p + r)
+    go zero e = ap (opening (single ws)) (sym (add-zero p))
     go (suc zero) e = open-active ws p e
     go (suc (suc r)) e = absurd (omega arith)
 
 -- at an even place: the end that was met is the opening, and otherwise the next even place is looked at
 pub open-here : (ws : List ℕ) (i : ℕ) (r : Bool) → i < length ws → i % 2 ≡ 0 → r ≡ endOf false (getD ws i 0) → (b : Bool) → r ≡ b
-    → opening ws i ≡ cond b (at i) (opening ws (i + 2))
-unfolding opening endAt
+    → opening (single ws) i ≡ cond b (at i) (opening (single ws) (i + 2))
+unfolding opening
 open-here ws i r h even e b g = here ∙ go b
   where
     two : i + 1 + 1 ≡ i + 2
     two = omega arith
 
-    here : opening ws i ≡ cond b (at i) (opening ws (i + 1))
-    here = first-here (endAt ws) i (length ws) b h (rw (ne-eqb (i % 2) 1 (λ x. omega arith)) (sym e ∙ g))
+    here : opening (single ws) i ≡ cond b (at i) (opening (single ws) (i + 1))
+    here = first-here (endAt (single ws)) i (length ws) b h (end-width ws i ∙ rw (ne-eqb (i % 2) 1 (λ x. omega arith)) (sym e ∙ g))
 
-    go : (c : Bool) → cond c (at i) (opening ws (i + 1)) ≡ cond c (at i) (opening ws (i + 2))
+    go : (c : Bool) → cond c (at i) (opening (single ws) (i + 1)) ≡ cond c (at i) (opening (single ws) (i + 2))
     go true = refl
-    go false = open-active ws (i + 1) (omega arith) ∙ ap (opening ws) two
+    go false = open-active ws (i + 1) (omega arith) ∙ ap (opening (single ws)) two
 
 -- ## What the search answered
 
@@ -81,15 +83,15 @@ found-none : (f : FoundPlace) → foundBy f ≡ Nowhere → f ≡ nowhere
 found-none nowhere e = refl
 found-none (at k) e = cc
 
-pub opened-at : (ws : List ℕ) (p o : ℕ) (r : Found) → r ≡ foundBy (opening ws p) → r ≡ At o → opening ws p ≡ at o
-opened-at ws p o r e g = found-at (opening ws p) o (sym e ∙ g)
+pub opened-at : (ws : List ℕ) (p o : ℕ) (r : Found) → r ≡ foundBy (opening (single ws) p) → r ≡ At o → opening (single ws) p ≡ at o
+opened-at ws p o r e g = found-at (opening (single ws) p) o (sym e ∙ g)
 
-pub opened-none : (ws : List ℕ) (p : ℕ) (r : Found) → r ≡ foundBy (opening ws p) → r ≡ Nowhere → opening ws p ≡ nowhere
-opened-none ws p r e g = found-none (opening ws p) (sym e ∙ g)
+pub opened-none : (ws : List ℕ) (p : ℕ) (r : Found) → r ≡ foundBy (opening (single ws) p) → r ≡ Nowhere → opening (single ws) p ≡ nowhere
+opened-none ws p r e g = found-none (opening (single ws) p) (sym e ∙ g)
 
 -- an opening stands in the recording
-pub opened-in : (ws : List ℕ) (p o : ℕ) → p ≤ length ws → opening ws p ≡ at o → o < length ws
+pub opened-in : (ws : List ℕ) (p o : ℕ) → p ≤ length ws → opening (single ws) p ≡ at o → o < length ws
 unfolding opening
 opened-in ws p o h e =
-    let f : IsFirst (endAt ws) p (length ws - p) o = first-at (endAt ws) p (length ws - p) o e in
+    let f : IsFirst (endAt (single ws)) p (length ws - p) o = first-at (endAt (single ws)) p (length ws - p) o e in
     omega (arith, f .before)

@@ -5,14 +5,14 @@ ghost use mathlib.Core.Path.{_≡_};
 ghost use Prim.Native.Nat.{_≤_, _<_};
 ghost use lib.ListN.{length};
 ghost use Rattle.frame.specs.Faults.{mostBytes};
-ghost use Rattle.frame.specs.Line.{at, opening as openingOf};
+ghost use Rattle.frame.specs.Line.{single, at, opening as openingOf};
 ghost use Rattle.frame.specs.Reading.{decided, readBy};
 ghost use Rattle.frame.specs.Answers.{ReadPromise};
 ghost use Rattle.frame_machine.specs.Parts.{partsOf};
 ghost use Rattle.frame_read.specs.Answering.{foundBy, frameOf, Meets};
+use frame::MOST_BYTES;
 use frame::Reading;
 use frame_machine::Event;
-use frame_machine::MOST_BYTES;
 use frame_machine::Machine;
 use units::Micros;
 use units::Place;
@@ -29,7 +29,7 @@ enum Found {
 // The first end at or after a place. Ends are passive, so the even places are all that is looked at.
 fn opening(intervals: &[u32], from: usize) -> Found
     requires { ⌜ from ≤ length (now intervals) ⌝ }
-    ensures { λ r. ⌜ r ≡ foundBy (openingOf (now (intervals .entry)) from) ⌝ }
+    ensures { λ r. ⌜ r ≡ foundBy (openingOf (single (now (intervals .entry))) from) ⌝ }
 {
     let mut i = from + from % 2;
     while i < intervals.len() {
@@ -60,7 +60,7 @@ fn framed(machine: Machine, opening: usize, closing: usize) -> Reading
 fn read_open(intervals: &[u32], opening: usize, lent: &mut [u8]) -> Reading
     requires { ⌜ opening < length (now intervals) ⌝ }
     requires { ⌜ mostBytes ≤ length (now lent) ⌝ }
-    ensures { λ r. ⌜ Meets (decided (now (intervals .entry)) opening) (now (lent .entry)) (now (lent .exit)) r ⌝ }
+    ensures { λ r. ⌜ Meets (decided mostBytes (single (now (intervals .entry))) opening) (now (lent .entry)) (now (lent .exit)) r ⌝ }
 {
     let mut kept = [0u8; MOST_BYTES];
     let mut held = frame_machine::start();
@@ -68,7 +68,7 @@ fn read_open(intervals: &[u32], opening: usize, lent: &mut [u8]) -> Reading
     while i < intervals.len() {
         let symbol = symbol::class(i % 2 == 1, Micros(intervals[i]));
         let at = held.count;
-        let stepped = frame_machine::step(held, symbol);
+        let stepped = frame_machine::step(MOST_BYTES, held, frame_machine::sign_of(symbol));
         let event = stepped.event;
         let next = stepped.machine;
         held = next;
@@ -100,7 +100,7 @@ fn read_open(intervals: &[u32], opening: usize, lent: &mut [u8]) -> Reading
 fn read_found(intervals: &[u32], from: usize, opening: usize, lent: &mut [u8]) -> Reading
     requires { ⌜ opening < length (now intervals) ⌝ }
     requires { ⌜ mostBytes ≤ length (now lent) ⌝ }
-    ensures { λ r. ⌜ Meets (readBy (at opening) (now (intervals .entry)) from) (now (lent .entry)) (now (lent .exit)) r ⌝ }
+    ensures { λ r. ⌜ Meets (readBy (at opening) mostBytes (single (now (intervals .entry))) from) (now (lent .entry)) (now (lent .exit)) r ⌝ }
 {
     if intervals.len() <= opening + 1 {
         return Reading::Quiet { next: Place(from) };
@@ -112,7 +112,7 @@ fn read_found(intervals: &[u32], from: usize, opening: usize, lent: &mut [u8]) -
 fn read_from(intervals: &[u32], from: usize, lent: &mut [u8]) -> Reading
     requires { ⌜ from ≤ length (now intervals) ⌝ }
     requires { ⌜ mostBytes ≤ length (now lent) ⌝ }
-    ensures { λ r. ⌜ Meets (readBy (openingOf (now (intervals .entry)) from) (now (intervals .entry)) from) (now (lent .entry)) (now (lent .exit)) r ⌝ }
+    ensures { λ r. ⌜ Meets (readBy (openingOf (single (now (intervals .entry))) from) mostBytes (single (now (intervals .entry))) from) (now (lent .entry)) (now (lent .exit)) r ⌝ }
 {
     let found = opening(intervals, from);
     match found {

@@ -11,10 +11,10 @@ ghost use Rattle.checkbyte.specs.Register.{checkFrom};
 ghost use Rattle.frame.specs.Bits.{odd, bitsOfByte};
 ghost use Rattle.symbol.specs.Sending.{bitWidth};
 ghost use Rattle.frame.specs.Writing.{bitWidths, byteWidths, responseWidths, frameWords, badMessage, WritePromise};
+use frame::MOST_BYTES;
+use frame::MOST_WORDS;
 use frame::Response;
 use frame::Writing;
-use frame_numbers::MOST_BYTES;
-use frame_numbers::MOST_WORDS;
 use symbol::Clock;
 use symbol::END_SENT;
 

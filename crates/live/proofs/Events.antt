@@ -7,12 +7,13 @@ use native.Mathlib.Omega.{arith}
 use lib.ListN.{length}
 use Rattle.symbol.specs.declared.Symbol.{Symbol}
 use Rattle.symbol.specs.Classes.{classOf, endOf}
+use Rattle.frame.specs.declared.Sign.{Sign}
 use Rattle.frame.specs.Line.{activeAt}
 use Rattle.frame.specs.Faults.{mostBytes}
 use Rattle.frame_machine.specs.declared.Machine.{Machine}
 use Rattle.frame_machine.specs.declared.Event.{Event}
 use Rattle.frame_machine.specs.declared.Stepped.{Stepped}
-use Rattle.frame_machine.specs.Steps.{stepOf}
+use Rattle.frame_machine.specs.Steps.{signFor, stepOf}
 use Rattle.frame_machine.specs.Laying.{laid, laidOf, laid-enough}
 use Rattle.live.specs.declared.Inside.{Inside}
 use Rattle.live.specs.declared.Live.{Live}
@@ -28,9 +29,9 @@ pub record Steps (v : Live) (w : ℕ) (end : Bool) (t : Stepped) : Type 0 where
   pub steps : t ≡ stepAt v w
   pub ends : end ≡ endsAt v w
 
-pub steps-by : (v : Live) (w : ℕ) (active end : Bool) (m : Machine) (s : Symbol) (t : Stepped) → active ≡ activeAt (v .places .next)
-    → end ≡ endOf active w → m ≡ heldBy (v .inside) → s ≡ classOf active w → t ≡ stepOf m s → Steps v w end t
-steps-by v w active end m s t a n h e g = record { steps = rw (g, h, e, a); ends = rw (n, a) }
+pub steps-by : (v : Live) (w : ℕ) (active end : Bool) (m : Machine) (s : Symbol) (r : Sign) (t : Stepped) → active ≡ activeAt (v .places .next)
+    → end ≡ endOf active w → m ≡ heldBy (v .inside) → s ≡ classOf active w → r ≡ signFor s → t ≡ stepOf mostBytes m r → Steps v w end t
+steps-by v w active end m s r t a n h e f g = record { steps = rw (g, h, f, e, a); ends = rw (n, a) }
 
 -- the event decides what is answered, and what becomes of the lent bytes
 pub fed-by : (v : Live) (w : ℕ) (end : Bool) (t : Stepped) → Steps v w end t → (k : Event) → t .event ≡ k

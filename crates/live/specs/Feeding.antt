@@ -8,6 +8,7 @@ use lib.ListN.{length, set, replicate}
 use Rattle.units.specs.declared.LongPlace.{LongPlace}
 use Rattle.symbol.specs.Classes.{classOf, endOf}
 use Rattle.frame.specs.declared.Fault.{Fault}
+use Rattle.frame.specs.declared.Sign.{Sign}
 use Rattle.frame.specs.Line.{activeAt}
 use Rattle.frame.specs.Faults.{mostBytes}
 use Rattle.frame_machine.specs.declared.Phase.{Phase}
@@ -16,7 +17,7 @@ use Rattle.frame_machine.specs.declared.Machine.{Machine}
 use Rattle.frame_machine.specs.declared.Event.{Event}
 use Rattle.frame_machine.specs.declared.Event.the-variants.{Going, Byte, Closed, Faulty}
 use Rattle.frame_machine.specs.declared.Stepped.{Stepped}
-use Rattle.frame_machine.specs.Steps.{fresh, stepOf}
+use Rattle.frame_machine.specs.Steps.{fresh, signFor, stepOf}
 use Rattle.frame_machine.specs.declared.parts.Parts.{Parts}
 use Rattle.frame_machine.specs.Laying.{laid}
 use Rattle.frame_machine.specs.Parts.{partsOf}
@@ -138,9 +139,13 @@ fedBy (Byte b) v m end = stillOpen v m (set (v .inside .kept) (heldBy (v .inside
 fedBy Closed v m end = closedFrame v (heldBy (v .inside)) end
 fedBy (Faulty f) v m end = faultHeard v f end
 
--- what the machine of a reader does at its next interval, which has the width w
+-- what the next interval of a reader shows, which has the width w
+abbrev pub signAt : Live → ℕ → Sign
+signAt v w = signFor (classOf (activeAt (v .places .next)) w)
+
+-- what the machine of a reader does at it
 abbrev pub stepAt : Live → ℕ → Stepped
-stepAt v w = stepOf (heldBy (v .inside)) (classOf (activeAt (v .places .next)) w)
+stepAt v w = stepOf mostBytes (heldBy (v .inside)) (signAt v w)
 
 -- whether that interval is an end
 abbrev pub endsAt : Live → ℕ → Bool

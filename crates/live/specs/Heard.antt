@@ -1,31 +1,37 @@
 -- A reader that was started, and the next interval, where it is taken.
-use Prim.Native.Nat.{ℕ, _≤_}
-use mathlib.Core.Path.{_≡_, refl, sym, ap, _∙_}
+use Prim.Native.Nat.{ℕ, _+_, _≤_, _<_}
+use mathlib.Core.Path.{_≡_, refl, sym, _∙_}
 use mathlib.Core.Bool.{true, false}
-use mathlib.Core.List.{List, []}
+use mathlib.Core.List.{List, [], _∷_, _++_}
 use native.Mathlib.Omega.{arith}
 use lib.Dec.{eqb}
-use lib.ListN.{length, replicate}
+use lib.ListN.{length, getD, replicate, length-append, List·getD-append}
+use lib.Seq.{getD-append-seam}
 use borrow.Author.Tests.{le-ltb, eq-eqb}
-use Rattle.symbol.specs.Classes.{endOf}
-use Rattle.frame.specs.Line.{activeAt, first, opening}
+use Rattle.symbol.specs.Classes.{classOf, endOf}
+use Rattle.frame.specs.Line.{activeAt, symbolAt, single, endAt, first, opening}
 use Rattle.frame.specs.Faults.{mostBytes}
 use Rattle.frame.specs.Reading.{Outcome}
+use Rattle.frame.specs.ShownLaws.{end-width}
+use Rattle.frame.specs.ReadingOn.{none-yet}
+use Rattle.frame.specs.Longer.{shows-same}
 use Rattle.frame_machine.specs.declared.Phase.{Phase}
 use Rattle.frame_machine.specs.declared.Phase.the-variants.{Sof, Main, Normalization, Plain, Checked}
 use Rattle.frame_machine.specs.declared.Machine.{Machine}
+use Rattle.frame_machine.specs.Steps.{signFor}
+use Rattle.frame_machine.specs.Meaning.{meaningOf, sign-means}
 use Rattle.live.specs.declared.Inside.{Inside}
 use Rattle.live.specs.declared.Live.{Live}
 use Rattle.live.specs.Feeding.{lastPlace, noFrame, phaseNumber, insideOf, outside, started, endsAt, takenOf, fedOf, lentOf}
-use Rattle.live.specs.Hearing.{none-yet, Counts, room, all-heard, Rest, seeks, hears, Hears, Takes, decides-nothing}
+use Rattle.live.specs.Hearing.{Counts, room, all-heard, Rest, seeks, hears, Hears, Takes, decides-nothing}
 use Rattle.live.specs.Opening.{begins-hears}
-use Rattle.live.specs.Taking.{reached-in, on, long, end-here, reached-on, none-still, takes-next}
+use Rattle.live.specs.Taking.{reached-in, reached-on, none-still, takes-next}
 
 -- A reader that was started has heard nothing and told nothing.
-pub starts : Hears [] [] started
+pub starts : Hears (single []) [] started
 unfolding started opening first
 starts =
-    record { reached = none-yet; counts = room refl refl (omega arith); rest = seeks (replicate mostBytes 0) refl refl refl }
+    record { reached = none-yet; counts = room refl refl (omega arith); rest = seeks (replicate mostBytes 0) refl (omega arith) refl }
 
 -- ## The next interval
 
@@ -48,24 +54,52 @@ in-frame : {i : Inside} (m : Machine) (kept : List ℕ) → i ≡ insideOf m kep
 unfolding insideOf
 in-frame m kept e = rw e (some-phase (m .phase))
 
-module _ (ws : List ℕ) (xs : List Outcome) (v : Live) (h : Hears ws xs v) (w : ℕ) where
+-- ## One interval more of a recording
+
+module _ (ws : List ℕ) (w : ℕ) where
+  -- the recording with one interval more
+  abbrev pub on : List ℕ
+  on = ws ++ (w ∷ [])
+
+  long : length on ≡ length ws + 1
+  long = length-append ws (w ∷ [])
+
+  same : (j : ℕ) → j < length ws → single ws .shows j ≡ single on .shows j
+  same j h = shows-same ws on j (sym (List·getD-append ws (w ∷ []) 0 j h))
+
+  here : getD on (length ws) 0 ≡ w
+  here = getD-append-seam ws w [] 0
+
+  -- what the interval shows, by its place in the recording ..
+  shown-here : (n : ℕ) → n ≡ length ws → meaningOf (signFor (classOf (activeAt n) w)) ≡ single on .shows (length ws)
+  unfolding symbolAt
+  shown-here n e = sign-means (classOf (activeAt n) w) ∙ rw (e, here)
+
+  -- .. and whether it is an end
+  end-here : (n : ℕ) → n ≡ length ws → endAt (single on) (length ws) ≡ endOf (activeAt n) w
+  end-here n e = end-width on (length ws) ∙ rw (e, here)
+
+module _ (ws : List ℕ) (xs : List Outcome) (v : Live) (h : Hears (single ws) xs v) (w : ℕ) where
   -- with bytes enough lent, and a place for the interval
   taken : (entry : List ℕ) → v .places .full ≡ 0 → v .places .next ≡ length ws → length ws ≤ lastPlace → mostBytes ≤ length entry
-      → Rest ws (v .places) (v .inside) → Takes ws xs w entry (lentOf v w entry) (fedOf v w (length entry))
+      → Rest (single ws) (v .places) (v .inside) → Takes (single ws) (single (on ws w)) xs entry (lentOf v w entry) (fedOf v w (length entry))
   unfolding fedOf lentOf takenOf
   taken entry none-full at-k fits enough (seeks kept is has-room none) =
       rw (eq-eqb (v .places .full) 0 none-full, le-ltb (length entry) mostBytes enough, out-of-frame kept is)
       (decides-nothing refl refl
-      (begins-hears (on ws w) (length ws) (long ws w) v at-k (ap length (kept-outside kept is) ∙ has-room) xs (v .places .from) fits (reached-in (h .reached)) (none-still ws w (v .places .from) none)
-      (endsAt v w) (sym (end-here ws w) ∙ ap (λ (x : ℕ). endOf (activeAt x) w) (sym at-k)) (reached-on ws w (h .reached))))
+      (begins-hears (single (on ws w)) (length ws) (long ws w) v at-k (rw (kept-outside kept is) has-room) xs (v .places .from) fits (reached-in (single ws) (h .reached))
+      (none-still (single ws) (single (on ws w)) (long ws w) (same ws w) (v .places .from) none)
+      (endsAt v w) (end-here ws w (v .places .next) at-k) (reached-on (single ws) (single (on ws w)) (long ws w) (same ws w) (h .reached))))
   taken entry none-full at-k fits enough (hears m kept is opens none stood) =
       rw (eq-eqb (v .places .full) 0 none-full, le-ltb (length entry) mostBytes enough, in-frame m kept is)
-      (takes-next ws w v xs (h .reached) at-k fits m kept is opens none stood entry)
+      (takes-next (single ws) (single (on ws w)) (long ws w) (same ws w) v xs (h .reached) at-k fits m kept is opens none stood w
+      (shown-here ws w (v .places .next) at-k) (end-here ws w (v .places .next) at-k) entry)
 
   -- Where the interval has a place and twelve bytes are lent it is taken.
-  pub takes-it : length ws ≤ lastPlace → (entry : List ℕ) → mostBytes ≤ length entry → Takes ws xs w entry (lentOf v w entry) (fedOf v w (length entry))
+  pub takes-it : length ws ≤ lastPlace → (entry : List ℕ) → mostBytes ≤ length entry
+      → Takes (single ws) (single (on ws w)) xs entry (lentOf v w entry) (fedOf v w (length entry))
   takes-it fits entry enough = go (h .counts)
     where
-      go : Counts (length ws) (v .places) → Takes ws xs w entry (lentOf v w entry) (fedOf v w (length entry))
-      go (room f n l) = taken entry f n fits enough (h .rest)
+      go : Counts (length ws) (v .places) → Takes (single ws) (single (on ws w)) xs entry (lentOf v w entry) (fedOf v w (length entry))
+      go (room f n x) = taken entry f n fits enough (h .rest)
       go (all-heard f n) = absurd (omega (arith, n, fits))

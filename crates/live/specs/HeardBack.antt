@@ -10,13 +10,12 @@ use borrow.Author.Tests.{le-ltb, le-leb}
 use Rattle.symbol.specs.declared.Clock.{Clock}
 use Rattle.symbol.specs.Clocks.{goodOf}
 use Rattle.symbol.specs.SendingLaws.{good as good-clock}
-use Rattle.checkbyte.specs.Register.{withCheck}
 use Rattle.frame.specs.declared.Response.{Response}
 use Rattle.checkbyte.specs.Differ.{Bytes}
-use Rattle.frame.specs.Line.{at, opening}
+use Rattle.frame.specs.Line.{single, at, opening}
 use Rattle.frame.specs.Faults.{mostBytes}
-use Rattle.frame.specs.Reading.{Outcome, good, quiet, reading}
-use Rattle.frame.specs.Writing.{responseSent, badMessage, frameWords}
+use Rattle.frame.specs.Reading.{Outcome, good, quiet, readOn, reading}
+use Rattle.frame.specs.Writing.{frameSent, badMessage, frameWords}
 use Rattle.frame.specs.Waves.{FrameWave}
 use Rattle.frame.specs.ReadBack.{wave-few, reads-wave}
 use Rattle.frame.specs.WrittenBack.{written-wave}
@@ -28,20 +27,20 @@ use Rattle.live.specs.Whole.{live-whole}
 module _ (ws main : List ℕ) (kind : Response) (rs : List ℕ) (wave : FrameWave main kind rs ws) (adm : badMessage main kind rs ≡ false) (mb : Bytes main) (rb : Bytes rs) where
   -- the message as reading tells it, from the opening to the closing end
   abbrev message : Outcome
-  message = good (withCheck main) (responseSent kind rs) kind 0 (length ws - 1)
+  message = good (frameSent main kind rs 0 (length ws - 1))
 
   is-message : reading ws 0 mostBytes ≡ message
   is-message =
       let e : 0 + length ws - 1 ≡ length ws - 1 = omega arith in
       ap (λ (l : List ℕ). reading l 0 mostBytes) (sym (append-nil ws)) ∙ reads-wave [] ws [] main kind rs mostBytes wave adm mb rb refl (omega arith)
-      ∙ ap (good (withCheck main) (responseSent kind rs) kind 0) e
+      ∙ ap (λ (k : ℕ). good (frameSent main kind rs 0 k)) e
 
   then-quiet : reading ws (length ws - 1) mostBytes ≡ quiet (length ws - 1)
-  unfolding reading
+  unfolding readOn
   then-quiet =
-      let goes : (0 < nextOf (reading ws 0 mostBytes)) × (nextOf (reading ws 0 mostBytes) < length ws) = progress ws 0 mostBytes (rw is-message) in
+      let goes : (0 < nextOf (reading ws 0 mostBytes)) × (nextOf (reading ws 0 mostBytes) < length ws) = progress mostBytes (single ws) 0 mostBytes (rw is-message) in
       let within : length ws - 1 < length ws = rw is-message at (goes .1) in
-      let opens : opening ws (length ws - 1) ≡ at (length ws - 1) = closing-opens ws 0 mostBytes (withCheck main) (responseSent kind rs) kind 0 (length ws - 1) is-message in
+      let opens : opening (single ws) (length ws - 1) ≡ at (length ws - 1) = closing-opens mostBytes (single ws) 0 mostBytes (frameSent main kind rs 0 (length ws - 1)) is-message in
       rw (le-ltb (length ws) (length ws - 1) (omega arith), opens, le-leb (length ws) (length ws - 1 + 1) (omega (arith, within)))
 
   reads-both : ReadsOn ws mostBytes 0 (message ∷ quiet (length ws - 1) ∷ [])
@@ -56,7 +55,7 @@ module _ (ws main : List ℕ) (kind : Response) (rs : List ℕ) (wave : FrameWav
 pub heard-wave : (is : List Comes) (main : List ℕ) (kind : Response) (rs : List ℕ) → Enough is → FrameWave main kind rs (recording is)
     → badMessage main kind rs ≡ false → Bytes main → Bytes rs
     → showsAll started is ++ (showsAsked (afterAll started is) ∷ [])
-    ≡ (reads (good (withCheck main) (responseSent kind rs) kind 0 (length (recording is) - 1)) ∷ reads (quiet (length (recording is) - 1)) ∷ [])
+    ≡ (reads (good (frameSent main kind rs 0 (length (recording is) - 1))) ∷ reads (quiet (length (recording is) - 1)) ∷ [])
 heard-wave is main kind rs enough wave adm mb rb =
     live-whole is enough (omega (arith, wave-few wave adm, length-map is (λ (c : Comes). c .width))) _ (reads-both (recording is) main kind rs wave adm mb rb)
 
@@ -64,6 +63,6 @@ heard-wave is main kind rs enough wave adm mb rb =
 pub heard-written : (c : Clock) (is : List Comes) (main : List ℕ) (kind : Response) (rs : List ℕ) → goodOf c ≡ true → badMessage main kind rs ≡ false
     → Bytes main → Bytes rs → Enough is → recording is ≡ frameWords c main kind rs
     → showsAll started is ++ (showsAsked (afterAll started is) ∷ [])
-    ≡ (reads (good (withCheck main) (responseSent kind rs) kind 0 (length (recording is) - 1)) ∷ reads (quiet (length (recording is) - 1)) ∷ [])
+    ≡ (reads (good (frameSent main kind rs 0 (length (recording is) - 1))) ∷ reads (quiet (length (recording is) - 1)) ∷ [])
 heard-written c is main kind rs g adm mb rb enough e =
     heard-wave is main kind rs enough (subst (FrameWave main kind rs) (sym e) (written-wave c (good-clock c g) main kind rs)) adm mb rb

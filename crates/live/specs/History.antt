@@ -8,6 +8,7 @@ use native.Mathlib.Omega.{arith}
 use lib.Dec.{eqb, ltb}
 use lib.ListN.{length, length-append}
 use borrow.Author.Tests.{eqb-true, ltb-false}
+use Rattle.frame.specs.Line.{single}
 use Rattle.frame.specs.Faults.{mostBytes}
 use Rattle.frame.specs.Reading.{Outcome}
 use Rattle.frame.specs.ReadingOn.{ReadsOn}
@@ -74,7 +75,7 @@ after-calls (hearing i ∷ cs) v = go (isTaken v i) refl (after-calls cs (afterO
     go false e k l = ap (λ (u : Live). afterCalls u cs) (refused-leaves v (i .width) (i .lent) e .0) ∙ l
 
 -- No history has more intervals taken than there are places.
-few-taken : (cs : List Call) (done : List ℕ) (xs : List Outcome) (v : Live) → Hears done xs v → length done + length (takenIn v cs) ≤ lastPlace + 1
+few-taken : (cs : List Call) (done : List ℕ) (xs : List Outcome) (v : Live) → Hears (single done) xs v → length done + length (takenIn v cs) ≤ lastPlace + 1
 few-taken [] done xs v h = go (h .counts)
   where
     go : Counts (length done) (v .places) → length done + 0 ≤ lastPlace + 1
@@ -87,17 +88,17 @@ few-taken (hearing i ∷ cs) done xs v h =
     has-place : isTaken v i ≡ true → Counts (length done) (v .places) → length done ≤ lastPlace
     has-place e (room f n k) = k
     has-place e (all-heard f n) =
-        let z : _≡_ {A = ℕ} 51 0 = sym (refused-51 done xs v h (i .width) (length (i .lent)) .1 n) ∙ eqb-true (refusal (fedOf v (i .width) (length (i .lent)) .heard)) 0 e in
+        let z : _≡_ {A = ℕ} 51 0 = sym (refused-51 (single done) xs v h (i .width) (length (i .lent)) .1 n) ∙ eqb-true (refusal (fedOf v (i .width) (length (i .lent)) .heard)) 0 e in
         absurd (omega (arith, z))
 
-    one-more : {exit : List ℕ} → Takes done xs (i .width) (i .lent) exit (fedOf v (i .width) (length (i .lent)))
-        → ((ys : List Outcome) → Hears (done ++ (i .width ∷ [])) ys (afterOne v i) → length (done ++ (i .width ∷ [])) + length (takenIn (afterOne v i) cs) ≤ lastPlace + 1)
+    one-more : {exit : List ℕ} → Takes (single done) (single (done ++ (i .width ∷ []))) xs (i .lent) exit (fedOf v (i .width) (length (i .lent)))
+        → ((ys : List Outcome) → Hears (single (done ++ (i .width ∷ []))) ys (afterOne v i) → length (done ++ (i .width ∷ [])) + length (takenIn (afterOne v i) cs) ≤ lastPlace + 1)
         → length done + length (i ∷ takenIn (afterOne v i) cs) ≤ lastPlace + 1
     one-more (decides-nothing t x k) on = omega (arith, on xs k, length-append done (i .width ∷ []))
     one-more (decides-one z g n t x k) on = omega (arith, on (xs ++ (z ∷ [])) k, length-append done (i .width ∷ []))
 
     go : (b : Bool) → isTaken v i ≡ b → length done + length (takenIn v cs) ≤ lastPlace + 1
-        → ((ys : List Outcome) → Hears (done ++ (i .width ∷ [])) ys (afterOne v i) → length (done ++ (i .width ∷ [])) + length (takenIn (afterOne v i) cs) ≤ lastPlace + 1)
+        → ((ys : List Outcome) → Hears (single (done ++ (i .width ∷ []))) ys (afterOne v i) → length (done ++ (i .width ∷ [])) + length (takenIn (afterOne v i) cs) ≤ lastPlace + 1)
         → length done + length (cond b (i ∷ takenIn (afterOne v i) cs) (takenIn v cs)) ≤ lastPlace + 1
     go true e l on = one-more (takes-it done xs v h (i .width) (has-place e (h .counts)) (i .lent) (taken-enough v i e)) on
     go false e l on = l

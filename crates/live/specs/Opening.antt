@@ -9,7 +9,7 @@ use native.Mathlib.Nat.{eq-or-lt-of-le}
 use lib.Dec.{eqb}
 use lib.ListN.{length}
 use borrow.Author.Tests.{le-leb, eq-eqb, ne-eqb}
-use Rattle.frame.specs.Line.{endAt, nowhere, at, firstIn, opening}
+use Rattle.frame.specs.Line.{Line, endAt, nowhere, at, firstIn, opening}
 use Rattle.frame.specs.Faults.{mostBytes}
 use Rattle.frame.specs.Reading.{Outcome, decides}
 use Rattle.frame.specs.FirstLaws.{first-next, first-empty}
@@ -17,7 +17,7 @@ use Rattle.frame_machine.specs.declared.Phase.{Phase}
 use Rattle.frame_machine.specs.declared.Phase.the-variants.{Sof, Main, Normalization, Plain, Checked}
 use Rattle.frame_machine.specs.declared.Machine.{Machine}
 use Rattle.frame_machine.specs.Steps.{fresh}
-use Rattle.frame_machine.specs.Following.{Before, at-first}
+use Rattle.frame_machine.specs.Keeping.{Keeping, keeping-first}
 use Rattle.live.specs.declared.Places.{Places}
 use Rattle.live.specs.declared.Live.{Live}
 use Rattle.live.specs.Feeding.{lastPlace, phaseNumber, phaseBy, heldBy, insideOf, behind, beginsAnew}
@@ -58,21 +58,21 @@ counts-on n p from opening e h = go (eq-or-lt-of-le h)
 
 -- Behind an interval at k that no frame goes on with: where it is an end it opens a frame, and nothing of it is heard yet;
 -- otherwise there is no opening yet.
-module _ (ws : List ℕ) (k : ℕ) (long : length ws ≡ k + 1) (v : Live) (at-k : v .places .next ≡ k) (has-room : length (v .inside .kept) ≡ mostBytes) where
-  pub begins : (from : ℕ) → from ≤ k → firstIn (endAt ws) from k ≡ nowhere → (b : Bool) → endAt ws k ≡ b
-      → Rest ws (beginsAnew v from b .places) (beginsAnew v from b .inside)
+module _ (l : Line) (k : ℕ) (long : l .count ≡ k + 1) (v : Live) (at-k : v .places .next ≡ k) (has-room : mostBytes ≤ length (v .inside .kept)) where
+  pub begins : (from : ℕ) → from ≤ k → firstIn (endAt l) from k ≡ nowhere → (b : Bool) → endAt l k ≡ b
+      → Rest l (beginsAnew v from b .places) (beginsAnew v from b .inside)
   unfolding beginsAnew behind opening
   begins from h none true e =
-      let opens : firstIn (endAt ws) from (length ws) ≡ at (v .places .next) = rw (long, first-next (endAt ws) from k h, none, e, at-k) in
+      let opens : firstIn (endAt l) from (l .count) ≡ at (v .places .next) = rw (long, first-next (endAt l) from k h, none, e, at-k) in
       hears fresh (v .inside .kept) refl opens
-      (first-empty (decides ws (v .places .next)) (v .places .next + 1) (length ws) (omega (arith, long, at-k)))
-      (subst (λ (x : ℕ). Before ws (v .places .next) x fresh (v .inside .kept)) (ap (λ (x : ℕ). x + 1) at-k ∙ sym long) (at-first ws (v .places .next) fresh (v .inside .kept) refl has-room))
+      (first-empty (decides mostBytes l (v .places .next)) (v .places .next + 1) (l .count) (omega (arith, long, at-k)))
+      (subst (λ (x : ℕ). Keeping mostBytes l (v .places .next) x fresh (v .inside .kept)) (ap (λ (x : ℕ). x + 1) at-k ∙ sym long) (keeping-first mostBytes l (v .places .next) fresh (v .inside .kept) refl has-room))
   begins from h none false e =
-      seeks (v .inside .kept) refl has-room (rw (long, first-next (endAt ws) from k h, none, e))
+      seeks (v .inside .kept) refl has-room (rw (long, first-next (endAt l) from k h, none, e))
 
   -- A reader that then goes on from there has heard all of it.
-  pub begins-hears : (xs : List Outcome) (from : ℕ) → k ≤ lastPlace → from ≤ k → firstIn (endAt ws) from k ≡ nowhere → (b : Bool) → endAt ws k ≡ b
-      → Reached ws from xs → Hears ws xs (beginsAnew v from b)
+  pub begins-hears : (xs : List Outcome) (from : ℕ) → k ≤ lastPlace → from ≤ k → firstIn (endAt l) from k ≡ nowhere → (b : Bool) → endAt l k ≡ b
+      → Reached l from xs → Hears l xs (beginsAnew v from b)
   unfolding beginsAnew behind
   begins-hears xs from fits h none true e r =
       record {

@@ -10,6 +10,7 @@ use lib.Dec.{eqb, ltb}
 use lib.ListN.{length}
 use borrow.Author.Tests.{ltb-true, lt-ltb, eq-eqb}
 use Rattle.laws.specs.Tests.{never}
+use Rattle.frame.specs.Line.{Line}
 use Rattle.frame.specs.Faults.{mostBytes}
 use Rattle.frame.specs.Reading.{Outcome}
 use Rattle.frame.specs.Answers.{bare}
@@ -86,39 +87,39 @@ refused-leaves v w lent h = go (eqb (v .places .full) 0) (ltb (length lent) most
     go true false g = never (rw (taken-none v w)) g
 
 -- For a reader that was started and has heard intervals: 51 exactly where the last place has been heard ..
-module _ (ws : List ℕ) (xs : List Outcome) (v : Live) (h : Hears ws xs v) (w lent : ℕ) where
-  with-room : length ws ≤ lastPlace → eqb (v .places .full) 0 ≡ true
-  with-room l = go (h .counts)
+module _ (l : Line) (xs : List Outcome) (v : Live) (h : Hears l xs v) (w lent : ℕ) where
+  with-room : l .count ≤ lastPlace → eqb (v .places .full) 0 ≡ true
+  with-room small = go (h .counts)
     where
-      go : Counts (length ws) (v .places) → eqb (v .places .full) 0 ≡ true
+      go : Counts (l .count) (v .places) → eqb (v .places .full) 0 ≡ true
       go (room f n k) = eq-eqb (v .places .full) 0 f
-      go (all-heard f n) = absurd (omega (arith, n, l))
+      go (all-heard f n) = absurd (omega (arith, n, small))
 
   -- the interval is past the last place
-  pub refused-51 : (refusal (fedOf v w lent .heard) ≡ 51) ↔ (length ws ≡ lastPlace + 1)
+  pub refused-51 : (refusal (fedOf v w lent .heard) ≡ 51) ↔ (l .count ≡ lastPlace + 1)
   refused-51 = (λ e. to (h .counts) e, λ e. from (h .counts) e)
     where
-      small : (b : Bool) → _≡_ {A = ℕ} (cond b 32 0) 51 → length ws ≡ lastPlace + 1
+      small : (b : Bool) → _≡_ {A = ℕ} (cond b 32 0) 51 → l .count ≡ lastPlace + 1
       small true e = absurd (omega arith)
       small false e = absurd (omega arith)
 
-      to : Counts (length ws) (v .places) → refusal (fedOf v w lent .heard) ≡ 51 → length ws ≡ lastPlace + 1
+      to : Counts (l .count) (v .places) → refusal (fedOf v w lent .heard) ≡ 51 → l .count ≡ lastPlace + 1
       to (room f n k) e = small (ltb lent mostBytes) (rw (refused-as v w lent, eq-eqb (v .places .full) 0 f) at e)
       to (all-heard f n) e = n
 
-      from : Counts (length ws) (v .places) → length ws ≡ lastPlace + 1 → refusal (fedOf v w lent .heard) ≡ 51
+      from : Counts (l .count) (v .places) → l .count ≡ lastPlace + 1 → refusal (fedOf v w lent .heard) ≡ 51
       from (room f n k) e = absurd (omega (arith, e, k))
       from (all-heard f n) e = rw (refused-as v w lent, f)
 
   -- .. and 32 exactly where there is a place and under twelve bytes are lent.
-  pub refused-32 : (refusal (fedOf v w lent .heard) ≡ 32) ↔ ((length ws ≤ lastPlace) × (lent < mostBytes))
+  pub refused-32 : (refusal (fedOf v w lent .heard) ≡ 32) ↔ ((l .count ≤ lastPlace) × (lent < mostBytes))
   refused-32 = (λ e. to (h .counts) e, λ p. rw (refused-as v w lent, with-room (p .0), lt-ltb lent mostBytes (p .1)))
     where
       few : (b : Bool) → ltb lent mostBytes ≡ b → _≡_ {A = ℕ} (cond b 32 0) 32 → lent < mostBytes
       few true q e = ltb-true lent mostBytes q
       few false q e = absurd (omega arith)
 
-      to : Counts (length ws) (v .places) → refusal (fedOf v w lent .heard) ≡ 32 → (length ws ≤ lastPlace) × (lent < mostBytes)
+      to : Counts (l .count) (v .places) → refusal (fedOf v w lent .heard) ≡ 32 → (l .count ≤ lastPlace) × (lent < mostBytes)
       to (room f n k) e = (k, few (ltb lent mostBytes) refl (rw (refused-as v w lent, eq-eqb (v .places .full) 0 f) at e))
       to (all-heard f n) e =
           let z : _≡_ {A = ℕ} 51 32 = rw (refused-as v w lent, f) at e in

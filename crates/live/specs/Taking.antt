@@ -1,104 +1,98 @@
 -- One interval more, which is not refused: what a reader knows goes on.
 use Prim.Native.Nat.{ℕ, _+_, _-_, _≤_, _<_}
 use mathlib.Core.Path.{_≡_, refl, sym, ap, subst, _∙_}
-use mathlib.Core.Bool.{Bool, true, false}
+use mathlib.Core.Bool.{Bool, true, false, cond}
 use mathlib.Core.List.{List, [], _∷_, _++_}
 use native.Mathlib.Omega.{arith}
-use lib.ListN.{length, getD, set, length-append, List·getD-append}
-use lib.Seq.{getD-append-seam}
-use Rattle.symbol.specs.Classes.{classOf, endOf}
-use Rattle.frame.specs.Line.{activeAt, symbolAt, endAt, Found, nowhere, at, firstIn, opening}
+use lib.ListN.{length, set}
+use Rattle.frame.specs.Line.{Line, endAt, Found, nowhere, at, firstIn, opening}
 use Rattle.frame.specs.Standing.{Standing, stands}
-use Rattle.frame.specs.Faults.{mostBytes, facts, mainBytes, responseBytes}
-use Rattle.frame.specs.Reading.{Outcome, good, faulty, decides, decidedBy, reading}
+use Rattle.frame.specs.Faults.{mostBytes}
+use Rattle.frame.specs.Reading.{Outcome, good, closed, faulty, decides, decidedBy, readOn}
 use Rattle.frame.specs.Answers.{faultNumber}
-use Rattle.frame.specs.FirstLaws.{IsFirst, first-at, first-next, first-empty}
+use Rattle.frame.specs.FirstLaws.{IsFirst, first-at, orAt, first-next, first-empty}
 use Rattle.frame.specs.Outcomes.{Opens, opened-reading, goesOn}
-use Rattle.frame.specs.ReadingOn.{nextOf, progress}
+use Rattle.frame.specs.ReadingOn.{nextOf, progress, none-yet, one-more}
 use Rattle.frame.specs.Longer.{first-same, end-same, stands-same, decides-same, reading-stays}
 use Rattle.frame_machine.specs.declared.Machine.{Machine}
 use Rattle.frame_machine.specs.declared.Event.{Event}
 use Rattle.frame_machine.specs.declared.Event.the-variants.{Going, Byte, Closed, Faulty}
 use Rattle.frame_machine.specs.Steps.{stepOf}
-use Rattle.frame_machine.specs.Holding.{holding, Kept}
+use Rattle.frame_machine.specs.Holding.{soFar, holding}
 use Rattle.frame_machine.specs.HoldingLaws.{count-of}
 use Rattle.frame_machine.specs.PartLaws.{parts-held}
-use Rattle.frame_machine.specs.Following.{Before, Says, some-fault, held-few, held-began, says-by}
+use Rattle.frame_machine.specs.Meaning.{meaningOf}
+use Rattle.frame_machine.specs.StepDoes.{some-fault}
+use Rattle.frame_machine.specs.Following.{held-few, held-began}
+use Rattle.frame_machine.specs.Keeping.{Kept, Keeping, SaysKept, kept-by}
 use Rattle.live.specs.declared.Live.{Live}
-use Rattle.live.specs.Feeding.{lastPlace, heldBy, insideOf, behind, beginsAnew, goesOn as goesOnWith, fedBy, stepAt, endsAt, laidBy}
-use Rattle.live.specs.Hearing.{Reached, none-yet, one-more, Counts, hears, Hears, Takes, decides-nothing, decides-one}
+use Rattle.live.specs.Feeding.{lastPlace, heldBy, insideOf, behind, beginsAnew, goesOn as goesOnWith, fedBy, signAt, stepAt, endsAt, laidBy}
+use Rattle.live.specs.Hearing.{Reached, Counts, hears, Hears, Takes, decides-nothing, decides-one}
 use Rattle.live.specs.Opening.{held-inside, counts-on, begins-hears}
 
 -- the position from which reading goes on lies in the recording
-pub reached-in : {ws : List ℕ} {p : ℕ} {xs : List Outcome} → Reached ws p xs → p ≤ length ws
-reached-in none-yet = omega arith
-reached-in {ws} (one-more {p} r g) = omega (arith, progress ws p mostBytes g .1)
+pub reached-in : (l : Line) {p : ℕ} {xs : List Outcome} → Reached l p xs → p ≤ l .count
+reached-in l none-yet = omega arith
+reached-in l (one-more {s = p} r g) = omega (arith, progress mostBytes l p mostBytes g .1)
 
-module _ (ws : List ℕ) (w : ℕ) where
-  -- the recording with one interval more
-  abbrev pub on : List ℕ
-  on = ws ++ (w ∷ [])
-
-  -- its length
-  pub long : length on ≡ length ws + 1
-  long = length-append ws (w ∷ [])
-
-  same : (j : ℕ) → j < length ws → getD ws j 0 ≡ getD on j 0
-  same j h = sym (List·getD-append ws (w ∷ []) 0 j h)
-
-  here : getD on (length ws) 0 ≡ w
-  here = getD-append-seam ws w [] 0
-
-  symbol-here : classOf (activeAt (length ws)) w ≡ symbolAt on (length ws)
-  unfolding symbolAt
-  symbol-here = rw here
-
-  -- whether the interval is an end, by its place in the recording
-  pub end-here : endOf (activeAt (length ws)) w ≡ endAt on (length ws)
-  unfolding endAt
-  end-here = rw here
-
+-- A line l and the line l' that one interval more makes of it.
+module _ (l l' : Line) (long : l' .count ≡ l .count + 1) (same : (j : ℕ) → j < l .count → l .shows j ≡ l' .shows j) where
   -- The frames and faults told so far stay.
-  pub reached-on : {p : ℕ} {xs : List Outcome} → Reached ws p xs → Reached on p xs
+  pub reached-on : {p : ℕ} {xs : List Outcome} → Reached l p xs → Reached l' p xs
   reached-on none-yet = none-yet
-  reached-on (one-more {p} {xs} r g) =
-      let e : reading on p mostBytes ≡ reading ws p mostBytes = reading-stays ws on (omega (arith, long)) same p mostBytes g in
-      subst (λ (x : Outcome). Reached on (nextOf x) (xs ++ (x ∷ []))) e (one-more (reached-on r) (rw e g))
+  reached-on (one-more {s = p} {xs} r g) =
+      let e : readOn mostBytes l' p mostBytes ≡ readOn mostBytes l p mostBytes = reading-stays mostBytes l l' (omega (arith, long)) same p mostBytes g in
+      subst (λ (x : Outcome). Reached l' (nextOf x) (xs ++ (x ∷ []))) e (one-more (reached-on r) (rw e g))
 
   -- What was no opening before the interval is none now.
-  pub none-still : (from : ℕ) → opening ws from ≡ nowhere → firstIn (endAt on) from (length ws) ≡ nowhere
+  pub none-still : (from : ℕ) → opening l from ≡ nowhere → firstIn (endAt l') from (l .count) ≡ nowhere
   unfolding opening
   none-still from e =
-      sym (first-same (endAt ws) (endAt on) from (length ws - from) (λ j a b. end-same ws on (length ws) same j (omega arith))) ∙ e
+      sym (first-same (endAt l) (endAt l') from (l .count - from) (λ j a b. end-same l l' (l .count) same j (omega arith))) ∙ e
 
 -- A reader that is hearing a frame, which opens at `o`, as the next interval comes.
-module _ (ws : List ℕ) (w : ℕ) (v : Live) (xs : List Outcome) (was : Reached ws (v .places .from) xs) (at-k : v .places .next ≡ length ws)
-    (fits : length ws ≤ lastPlace) (m : Machine) (kept : List ℕ) (is : v .inside ≡ insideOf m kept)
-    (opens : opening ws (v .places .from) ≡ at (v .places .opening))
-    (none : firstIn (decides ws (v .places .opening)) (v .places .opening + 1) (length ws) ≡ nowhere)
-    (stood : Before ws (v .places .opening) (length ws) m kept) where
+module _ (l l' : Line) (long : l' .count ≡ l .count + 1) (same : (j : ℕ) → j < l .count → l .shows j ≡ l' .shows j)
+    (v : Live) (xs : List Outcome) (was : Reached l (v .places .from) xs) (at-k : v .places .next ≡ l .count)
+    (fits : l .count ≤ lastPlace) (m : Machine) (kept : List ℕ) (is : v .inside ≡ insideOf m kept)
+    (opens : opening l (v .places .from) ≡ at (v .places .opening))
+    (none : firstIn (decides mostBytes l (v .places .opening)) (v .places .opening + 1) (l .count) ≡ nowhere)
+    (stood : Keeping mostBytes l (v .places .opening) (l .count) m kept) where
   -- where the frame opens
   abbrev o : ℕ
   o = v .places .opening
 
   -- the place of the interval
   abbrev k : ℕ
-  k = length ws
+  k = l .count
 
-  before : Before (on ws w) o k m kept
+  before : Keeping mostBytes l' o k m kept
   before =
-      let st : stands ws o k ≡ stands (on ws w) o k = stands-same ws (on ws w) k (same ws w) o k (stood .opened) (omega arith) in
-      record { opened = stood .opened; holds = stood .holds ∙ ap holding st; keeps = subst (λ (x : Standing). Kept x kept) st (stood .keeps) }
+      let st : stands l o k ≡ stands l' o k = stands-same l l' k same o k (stood .follows .opened) (omega arith) in
+      record {
+        follows = record {
+          opened = stood .follows .opened;
+          few = subst (λ (x : Standing). length (soFar x) ≤ mostBytes) st (stood .follows .few);
+          holds = stood .follows .holds ∙ ap holding st;
+        };
+        keeps = subst (λ (x : Standing). Kept mostBytes x kept) st (stood .keeps);
+      }
 
-  none-before : firstIn (decides (on ws w) o) (o + 1) k ≡ nowhere
+  none-before : firstIn (decides mostBytes l' o) (o + 1) k ≡ nowhere
   none-before =
-      sym (first-same (decides ws o) (decides (on ws w) o) (o + 1) (k - (o + 1)) (λ j a b. decides-same ws (on ws w) k (same ws w) o j (omega arith) (omega arith))) ∙ none
+      sym (first-same (decides mostBytes l o) (decides mostBytes l' o) (o + 1) (k - (o + 1)) (λ j a b. decides-same l l' k same mostBytes o j (omega arith) (omega arith))) ∙ none
 
-  opens-on : opening (on ws w) (v .places .from) ≡ at o
+  -- with the interval, the first that decides is the interval itself or none
+  found-next : (b : Bool) → decides mostBytes l' o k ≡ b → firstIn (decides mostBytes l' o) (o + 1) (l' .count) ≡ cond b (at k) nowhere
+  found-next b d =
+      ap (firstIn (decides mostBytes l' o) (o + 1)) long
+      ∙ first-next (decides mostBytes l' o) (o + 1) k (omega (arith, before .follows .opened))
+      ∙ ap (λ (f : Found). orAt f (decides mostBytes l' o k) k) none-before ∙ ap (λ (x : Bool). cond x (at k) nowhere) d
+
+  opens-on : opening l' (v .places .from) ≡ at o
   unfolding opening
   opens-on =
-      let e : firstIn (endAt (on ws w)) (v .places .from) k ≡ at o = sym (first-same (endAt ws) (endAt (on ws w)) (v .places .from) (k - v .places .from) (λ j a b. end-same ws (on ws w) k (same ws w) j (omega arith))) ∙ opens in
-      rw (long ws w, first-next (endAt (on ws w)) (v .places .from) k (reached-in was), e)
+      let e : firstIn (endAt l') (v .places .from) k ≡ at o = sym (first-same (endAt l) (endAt l') (v .places .from) (k - v .places .from) (λ j a b. end-same l l' k same j (omega arith))) ∙ opens in
+      rw (long, first-next (endAt l') (v .places .from) k (reached-in l was), e)
 
   kept-is : v .inside .kept ≡ kept
   unfolding insideOf
@@ -106,68 +100,67 @@ module _ (ws : List ℕ) (w : ℕ) (v : Live) (xs : List Outcome) (was : Reached
 
   held-is : heldBy (v .inside) ≡ m
   held-is =
-      ap heldBy is ∙ held-inside m kept (held-few (on ws w) o k m kept before) (held-began (on ws w) o k m kept before)
+      ap heldBy is ∙ held-inside m kept (held-few mostBytes l' o k m (before .follows)) (held-began mostBytes l' o k m (before .follows))
 
   -- Where the interval decides, the whole recording is read so.
-  reads : decides (on ws w) o k ≡ true → reading (on ws w) (v .places .from) mostBytes ≡ decidedBy (at k) (on ws w) o
+  reads : decides mostBytes l' o k ≡ true → readOn mostBytes l' (v .places .from) mostBytes ≡ decidedBy (at k) mostBytes l' o
   unfolding opening
   reads d =
-      let f : IsFirst (endAt (on ws w)) (v .places .from) (length (on ws w) - v .places .from) o = first-at (endAt (on ws w)) (v .places .from) (length (on ws w) - v .places .from) o opens-on in
-      let op : Opens (on ws w) (v .places .from) o = record {
+      let f : IsFirst (endAt l') (v .places .from) (l' .count - v .places .from) o = first-at (endAt l') (v .places .from) (l' .count - v .places .from) o opens-on in
+      let op : Opens l' (v .places .from) o = record {
         from = f .from;
         end = f .holds;
         none-before = f .none-earlier;
-        followed = omega (arith, before .opened, long ws w);
+        followed = omega (arith, before .follows .opened, long);
       } in
-      let found : firstIn (decides (on ws w) o) (o + 1) (length (on ws w)) ≡ at k = rw (long ws w, first-next (decides (on ws w) o) (o + 1) k (omega (arith, before .opened)), none-before, d) in
-      opened-reading (on ws w) (v .places .from) mostBytes o (omega arith) op ∙ ap (λ (x : Found). decidedBy x (on ws w) o) found
+      let found : firstIn (decides mostBytes l' o) (o + 1) (l' .count) ≡ at k = found-next true d in
+      opened-reading mostBytes l' (v .places .from) mostBytes o (omega arith) op ∙ ap (λ (x : Found). decidedBy x mostBytes l' o) found
 
   -- The frame goes on.
-  goes : (m' : Machine) (kept' : List ℕ) → decides (on ws w) o k ≡ false → Before (on ws w) o (k + 1) m' kept' → Hears (on ws w) xs (goesOnWith v m' kept')
+  goes : (m' : Machine) (kept' : List ℕ) → decides mostBytes l' o k ≡ false → Keeping mostBytes l' o (k + 1) m' kept' → Hears l' xs (goesOnWith v m' kept')
   unfolding goesOnWith behind
   goes m' kept' d b =
       record {
-        reached = reached-on ws w was;
-        counts = subst (λ (n : ℕ). Counts n (goesOnWith v m' kept' .places)) (sym (long ws w)) (counts-on k (v .places) (v .places .from) o at-k fits);
+        reached = reached-on l l' long same was;
+        counts = subst (λ (n : ℕ). Counts n (goesOnWith v m' kept' .places)) (sym (long)) (counts-on k (v .places) (v .places .from) o at-k fits);
         rest = hears m' kept' refl opens-on
-            (rw (long ws w, first-next (decides (on ws w) o) (o + 1) k (omega (arith, before .opened)), none-before, d))
-            (subst (λ (n : ℕ). Before (on ws w) o n m' kept') (sym (long ws w)) b);
+            (found-next false d)
+            (subst (λ (n : ℕ). Keeping mostBytes l' o n m' kept') (sym (long)) b);
       }
 
   -- The frame ends with the interval: what is decided is told, and the next frame may open.
-  ends-with : (x : Outcome) → goesOn x ≡ true → nextOf x ≡ k → reading (on ws w) (v .places .from) mostBytes ≡ x → (b : Bool) → endAt (on ws w) k ≡ b
-      → Hears (on ws w) (xs ++ (x ∷ [])) (beginsAnew v (v .places .next) b)
+  ends-with : (x : Outcome) → goesOn x ≡ true → nextOf x ≡ k → readOn mostBytes l' (v .places .from) mostBytes ≡ x → (b : Bool) → endAt l' k ≡ b
+      → Hears l' (xs ++ (x ∷ [])) (beginsAnew v (v .places .next) b)
   ends-with x g n r b e =
-      begins-hears (on ws w) k (long ws w) v at-k (ap length kept-is ∙ before .keeps .room) (xs ++ (x ∷ [])) (v .places .next) fits (omega (arith, at-k))
-      (first-empty (endAt (on ws w)) (v .places .next) k (omega (arith, at-k))) b e
-      (subst (λ (p : ℕ). Reached (on ws w) p (xs ++ (x ∷ []))) (n ∙ sym at-k) (subst (λ (y : Outcome). Reached (on ws w) (nextOf y) (xs ++ (y ∷ []))) r (one-more (reached-on ws w was) (rw r g))))
+      begins-hears l' k (long) v at-k (rw kept-is (before .keeps .room)) (xs ++ (x ∷ [])) (v .places .next) fits (omega (arith, at-k))
+      (first-empty (endAt l') (v .places .next) k (omega (arith, at-k))) b e
+      (subst (λ (p : ℕ). Reached l' p (xs ++ (x ∷ []))) (n ∙ sym at-k) (subst (λ (y : Outcome). Reached l' (nextOf y) (xs ++ (y ∷ []))) r (one-more (reached-on l l' long same was) (rw r g))))
 
   -- Each event of the machine does what Takes says.
-  takes : (entry : List ℕ) (e : Event) (m' : Machine) (b : Bool) → endAt (on ws w) k ≡ b → Says e (m .count) (on ws w) o k m' kept
-      → Takes ws xs w entry (laidBy e (v .inside) entry) (fedBy e v m' b)
+  takes : (entry : List ℕ) (e : Event) (m' : Machine) (b : Bool) → endAt l' k ≡ b → SaysKept e (m .count) mostBytes l' o k m' kept
+      → Takes l l' xs entry (laidBy e (v .inside) entry) (fedBy e v m' b)
   takes entry Going m' b q s =
-      decides-nothing refl refl (goes m' (v .inside .kept) (s .0) (subst (λ (l : List ℕ). Before (on ws w) o (k + 1) m' l) (sym kept-is) (s .1)))
+      decides-nothing refl refl (goes m' (v .inside .kept) (s .0) (subst (λ (x : List ℕ). Keeping mostBytes l' o (k + 1) m' x) (sym kept-is) (s .1)))
   takes entry (Byte x) m' b q s =
       let e : set kept (m .count) x ≡ set (v .inside .kept) (heldBy (v .inside) .count) x = rw (held-is, kept-is) in
       decides-nothing refl refl
-      (goes m' (set (v .inside .kept) (heldBy (v .inside) .count) x) (s .0) (subst (λ (l : List ℕ). Before (on ws w) o (k + 1) m' l) e (s .1 .1)))
+      (goes m' (set (v .inside .kept) (heldBy (v .inside) .count) x) (s .0) (subst (λ (x : List ℕ). Keeping mostBytes l' o (k + 1) m' x) e (s .1 .1)))
   takes entry Closed m' b q s =
-      let st : Standing = stands (on ws w) o k in
-      let x : Outcome = good (mainBytes st) (responseBytes st) (facts st .answered) o k in
-      let r : reading (on ws w) (v .places .from) mostBytes ≡ x = reads (s .0) ∙ rw (s .1 .0) in
+      let st : Standing = stands l' o k in
+      let x : Outcome = good (closed st o k) in
+      let r : readOn mostBytes l' (v .places .from) mostBytes ≡ x = reads (s .0) ∙ rw (s .1 .0) (ap (λ (y : Standing). good (closed y o k)) (s .1 .1 .no-bit)) in
       decides-one x refl refl
-      (rw (held-is, before .holds, parts-held st, at-k))
-      (rw (held-is, before .holds, count-of st, kept-is, before .keeps .first))
+      (rw (held-is, before .follows .holds, parts-held st, at-k))
+      (rw (held-is, before .follows .holds, count-of st, kept-is, before .keeps .first))
       (ends-with x refl refl r b q)
   takes entry (Faulty f) m' b q s =
       let x : Outcome = faulty (faultNumber f) k in
-      let r : reading (on ws w) (v .places .from) mostBytes ≡ x = reads (s .0) ∙ rw (s .1, some-fault f) in
+      let r : readOn mostBytes l' (v .places .from) mostBytes ≡ x = reads (s .0) ∙ rw (s .1, some-fault f) in
       decides-one x refl refl (rw at-k) refl (ends-with x refl refl r b q)
 
-  -- So does the next interval, whatever its width.
-  pub takes-next : (entry : List ℕ) → Takes ws xs w entry (laidBy (stepAt v w .event) (v .inside) entry) (fedBy (stepAt v w .event) v (stepAt v w .machine) (endsAt v w))
-  takes-next entry =
-      let symbol-is : classOf (activeAt (v .places .next)) w ≡ symbolAt (on ws w) k = ap (λ (x : ℕ). classOf (activeAt x) w) at-k ∙ symbol-here ws w in
-      let end-is : endAt (on ws w) k ≡ endsAt v w = sym (end-here ws w) ∙ ap (λ (x : ℕ). endOf (activeAt x) w) (sym at-k) in
-      let stepped : stepAt v w ≡ stepOf m (classOf (activeAt (v .places .next)) w) = ap (λ (x : Machine). stepOf x (classOf (activeAt (v .places .next)) w)) held-is in
-      takes entry (stepAt v w .event) (stepAt v w .machine) (endsAt v w) end-is (says-by (on ws w) o k m kept before (classOf (activeAt (v .places .next)) w) (stepAt v w) (stepAt v w .event) symbol-is stepped refl)
+  -- So does the next interval, whatever it shows.
+  pub takes-next : (w : ℕ) → meaningOf (signAt v w) ≡ l' .shows k → endAt l' k ≡ endsAt v w → (entry : List ℕ)
+      → Takes l l' xs entry (laidBy (stepAt v w .event) (v .inside) entry) (fedBy (stepAt v w .event) v (stepAt v w .machine) (endsAt v w))
+  takes-next w shows-is end-is entry =
+      let stepped : stepAt v w ≡ stepOf mostBytes m (signAt v w) = ap (λ (x : Machine). stepOf mostBytes x (signAt v w)) held-is in
+      takes entry (stepAt v w .event) (stepAt v w .machine) (endsAt v w) end-is (kept-by mostBytes l' o k m kept before (signAt v w) (stepAt v w) (stepAt v w .event) shows-is stepped refl)

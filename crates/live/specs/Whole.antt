@@ -2,22 +2,23 @@
 -- deliveries, with the bytes of their frames, and then the answer when asked, are those of reading the whole recording on
 -- from its start.
 use Prim.Native.Nat.{ℕ, _+_, _≤_}
-use mathlib.Core.Path.{_≡_, refl, sym, ap, subst, _∙_}
+use mathlib.Core.Path.{_≡_, refl, sym, ap, _∙_}
 use mathlib.Core.Bool.{false}
 use mathlib.Core.List.{List, [], _∷_, _++_, map, append-nil, append-assoc}
 use native.Mathlib.Omega.{arith}
 use lib.ListN.{length, drop, length-append, length-map}
 use lib.Seq.{take-at}
 use Rattle.laws.specs.Tests.{never}
+use Rattle.frame.specs.Line.{single}
 use Rattle.frame.specs.Faults.{mostBytes}
 use Rattle.frame.specs.Reading.{Outcome, good, quiet, unfinished, faulty, refused, reading}
 use Rattle.frame.specs.Answers.{Told, tells, lentAfter}
 use Rattle.frame.specs.Outcomes.{goesOn}
-use Rattle.frame.specs.ReadingOn.{ReadsOn, last, more, reads-once}
+use Rattle.frame.specs.ReadingOn.{ReadsOn, last, reads-once, reads-through}
 use Rattle.live.specs.declared.Live.{Live}
 use Rattle.live.specs.Feeding.{lastPlace, started, fedOf, lentOf, askedOf}
 use Rattle.live.specs.Answers.{askedTold}
-use Rattle.live.specs.Hearing.{Reached, none-yet, one-more, Hears, Takes, decides-nothing, decides-one}
+use Rattle.live.specs.Hearing.{Reached, Hears, Takes, decides-nothing, decides-one}
 use Rattle.live.specs.Heard.{starts, takes-it}
 use Rattle.live.specs.Asking.{asks}
 use Rattle.live.specs.Shown.{Comes, recording, Enough, none, also, Shown, afterOne, afterAll, shown, showsOne, showsAll, reads, showsAsked, joined, showsIn, afterIn}
@@ -26,9 +27,9 @@ use Rattle.live.specs.Shown.{Comes, recording, Enough, none, also, Shown
 
 -- The bytes that an answer tells of are those that stand first in the lent bytes behind it.
 stands-first : (x : Outcome) (entry : List ℕ) → shown (lentAfter x entry) (tells x) ≡ reads x
-stands-first (good main response kind o k) entry =
-    ap (λ (l : List ℕ). record { told = tells (good main response kind o k); bytes = l })
-    (take-at (main ++ response) (drop (length (main ++ response)) entry) (length main + length response) (length-append main response))
+stands-first (good f) entry =
+    ap (λ (l : List ℕ). record { told = tells (good f); bytes = l })
+    (take-at (f .main ++ f .response) (drop (length (f .main ++ f .response)) entry) (length (f .main) + length (f .response)) (length-append (f .main) (f .response)))
 stands-first (quiet k) entry = refl
 stands-first (unfinished o) entry = refl
 stands-first (faulty n k) entry = refl
@@ -37,11 +38,11 @@ stands-first (refused n) entry = refl
 -- what a reader shows over some intervals, by what it then knows
 pub record Shows (ws : List ℕ) (xs : List Outcome) (after : Live) (shows : List Shown) : Type 0 where
   pub new : List Outcome
-  pub knows : Hears ws (xs ++ new) after
+  pub knows : Hears (single ws) (xs ++ new) after
   pub says : shows ≡ map reads new
 
 -- Over any intervals a reader that has heard others goes on knowing what reading says of all of them.
-pub hears-all : (is : List Comes) → Enough is → (done : List ℕ) (xs : List Outcome) (v : Live) → Hears done xs v → length done + length is ≤ lastPlace + 1
+pub hears-all : (is : List Comes) → Enough is → (done : List ℕ) (xs : List Outcome) (v : Live) → Hears (single done) xs v → length done + length is ≤ lastPlace + 1
     → Shows (done ++ recording is) xs (afterAll v is) (showsAll v is)
 hears-all [] none done xs v h fits =
     record { new = []; knows = rw (append-nil done, append-nil xs) h; says = refl }
@@ -55,8 +56,8 @@ hears-all (i ∷ is) (also few rest) done xs v h fits =
     left : length (done ++ (i .width ∷ [])) + length is ≤ lastPlace + 1
     left = omega (arith, length-append done (i .width ∷ []))
 
-    go : Takes done xs (i .width) (i .lent) (lentOf v (i .width) (i .lent)) (fedOf v (i .width) (length (i .lent)))
-        → ((ys : List Outcome) → Hears (done ++ (i .width ∷ [])) ys (afterOne v i)
+    go : Takes (single done) (single (done ++ (i .width ∷ []))) xs (i .lent) (lentOf v (i .width) (i .lent)) (fedOf v (i .width) (length (i .lent)))
+        → ((ys : List Outcome) → Hears (single (done ++ (i .width ∷ []))) ys (afterOne v i)
         → Shows ((done ++ (i .width ∷ [])) ++ recording is) ys (afterAll (afterOne v i) is) (showsAll (afterOne v i) is))
         → Shows (done ++ (i .width ∷ recording is)) xs (afterAll (afterOne v i) is) (showsOne v i ++ showsAll (afterOne v i) is)
     go (decides-nothing t e k) on =
@@ -72,19 +73,13 @@ hears-all (i ∷ is) (also few rest) done xs v h fits =
 
 -- ## Reading the whole recording
 
--- The frames and faults told so far, and what is read on from there, are what is read from the start.
-reads-from : {ws : List ℕ} {p : ℕ} {xs ys : List Outcome} → Reached ws p xs → ReadsOn ws mostBytes p ys → ReadsOn ws mostBytes 0 (xs ++ ys)
-reads-from none-yet r = r
-reads-from {ws} {ys = ys} (one-more {p} {xs} q g) r =
-    subst (ReadsOn ws mostBytes 0) (sym (append-assoc xs (reading ws p mostBytes ∷ []) ys)) (reads-from q (more g r))
-
 map-last : (xs : List Outcome) (x : Outcome) → map reads (xs ++ (x ∷ [])) ≡ map reads xs ++ (reads x ∷ [])
 map-last [] x = refl
 map-last (y ∷ xs) x = ap (λ (l : List Shown). reads y ∷ l) (map-last xs x)
 
 -- no frame and no fault has bytes
 shows-end : (x : Outcome) (t : Told) → t ≡ tells x → goesOn x ≡ false → _≡_ {A = Shown} (record { told = t; bytes = [] }) (reads x)
-shows-end (good main response kind o k) t e g = never refl g
+shows-end (good f) t e g = never refl g
 shows-end (quiet k) t e g = rw e
 shows-end (unfinished o) t e g = rw e
 shows-end (faulty n k) t e g = never refl g
@@ -97,8 +92,8 @@ pub live-whole : (is : List Comes) → Enough is → length is ≤ lastPlace + 1
 live-whole is enough fits zs r =
     let t : Shows (recording is) [] (afterAll started is) (showsAll started is) = hears-all is enough [] [] started starts (omega (arith, fits)) in
     let rest : Outcome = reading (recording is) (afterAll started is .places .from) mostBytes in
-    let a = asks (recording is) (t .new) (afterAll started is) (t .knows) in
-    let whole : ReadsOn (recording is) mostBytes 0 (t .new ++ (rest ∷ [])) = reads-from (t .knows .reached) (last (a .1)) in
+    let a = asks (single (recording is)) (t .new) (afterAll started is) (t .knows) in
+    let whole : ReadsOn (recording is) mostBytes 0 (t .new ++ (rest ∷ [])) = reads-through (t .knows .reached) (last (a .1)) in
     ap (λ (l : List Shown). l ++ (showsAsked (afterAll started is) ∷ [])) (t .says)
     ∙ ap (λ (y : Shown). map reads (t .new) ++ (y ∷ [])) (shows-end rest (askedTold (askedOf (afterAll started is))) (a .0) (a .1))
     ∙ sym (map-last (t .new) rest) ∙ ap (map reads) (reads-once whole r)
@@ -135,8 +130,8 @@ delivered-whole ds enough fits zs r = rw (deliveries started ds, after-deliverie
 -- what a reader that has heard some intervals does with the next
 pub record Next (is : List Comes) (i : Comes) : Type 0 where
   pub told-before : List Outcome
-  pub reached : Reached (recording is) (afterAll started is .places .from) told-before
-  pub takes : Takes (recording is) told-before (i .width) (i .lent) (lentOf (afterAll started is) (i .width) (i .lent)) (fedOf (afterAll started is) (i .width) (length (i .lent)))
+  pub reached : Reached (single (recording is)) (afterAll started is .places .from) told-before
+  pub takes : Takes (single (recording is)) (single (recording is ++ (i .width ∷ []))) told-before (i .lent) (lentOf (afterAll started is) (i .width) (i .lent)) (fedOf (afterAll started is) (i .width) (length (i .lent)))
 
 -- "An answer at the interval that decides it": a frame or a fault is told at its own place, and is the next that reading tells
 -- of the recording with that interval.

@@ -5,10 +5,9 @@ use mathlib.Core.List.{List, [], _∷_, _++_, map}
 use lib.ListN.{replicate}
 use Rattle.symbol.specs.Classes.{classOf, endOf}
 use Rattle.checkbyte.specs.Register.{shift, eightShifts, stepOf as registerStep}
-use Rattle.frame.specs.declared.Response.the-variants.{Without}
 use Rattle.frame.specs.Faults.{mostBytes}
 use Rattle.frame.specs.Reading.{good, quiet}
-use Rattle.frame.specs.WorkedReading.{ffff}
+use Rattle.frame.specs.WorkedReading.{ffff, ffffRead}
 use Rattle.frame_machine.specs.Steps.{pushOf, bitOf, sofOf, closeOf}
 use Rattle.live.specs.Feeding.{heldBy, insideOf, outside, behind, started, beginsAnew, goesOn, takenOf, fedOf, lentOf, askedOf}
 use Rattle.live.specs.Shown.{Comes, showsAll, afterAll, showsAsked, reads}
@@ -19,6 +18,6 @@ heardFfff = map (λ (w : ℕ). record { width = w; lent = replicate mostBytes 0 
 
 -- The frame FF FF is told at its closing end, with its bytes; then the reader is quiet from there.
 pub heard-worked : showsAll started heardFfff ++ (showsAsked (afterAll started heardFfff) ∷ [])
-    ≡ (reads (good (0xFF ∷ 0xFF ∷ []) [] Without 0 18) ∷ reads (quiet 18) ∷ [])
+    ≡ (reads (good ffffRead) ∷ reads (quiet 18) ∷ [])
 unfolding heldBy insideOf outside behind started beginsAnew goesOn takenOf fedOf lentOf askedOf pushOf bitOf sofOf closeOf classOf endOf registerStep eightShifts shift
 heard-worked = refl

@@ -3,7 +3,7 @@
 ghost use mathlib.Core.Path.{_≡_};
 ghost use Rattle.live.specs.Feeding.{phaseNumber, phaseBy, least as leastOf, heldBy, insideOf, outside as outsideOf};
 use crate::Inside;
-use frame_machine::MOST_BYTES;
+use frame::MOST_BYTES;
 use frame_machine::Machine;
 use frame_machine::Phase;
 

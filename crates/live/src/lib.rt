@@ -8,8 +8,8 @@ ghost use lib.ListN.{length};
 ghost use Rattle.live.specs.Feeding.{started, refusedBy, fedOf, lentOf, askedOf};
 use frame::Fault;
 use frame::Lengths;
+use frame::MOST_BYTES;
 use frame::Response;
-use frame_machine::MOST_BYTES;
 use held::NO_FRAME;
 use held::SOF_NEXT;
 use held::outside;
@@ -34,7 +34,7 @@ pub struct Places {
 pub struct Inside {
     pub count: usize,
     pub began: usize,
-    pub kept: [u8; 12],
+    pub kept: [u8; MOST_BYTES],
     pub phase: u16,
     pub partial: u8,
     pub register: u8,

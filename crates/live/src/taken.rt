@@ -13,8 +13,8 @@ use crate::held::held_by;
 use crate::held::inside_of;
 use crate::held::outside;
 use frame::Fault;
+use frame::MOST_BYTES;
 use frame_machine::Event;
-use frame_machine::MOST_BYTES;
 use frame_machine::Machine;
 use units::LongPlace;
 use units::Micros;
@@ -159,7 +159,8 @@ pub(crate) fn inside_frame(live: Live, width: Micros, lent: &mut [u8]) -> Fed
     let end = symbol::is_end(active, width);
     let held = held_by(inside);
     let count = held.count;
-    let stepped = frame_machine::step(held, symbol::class(active, width));
+    let sign = frame_machine::sign_of(symbol::class(active, width));
+    let stepped = frame_machine::step(MOST_BYTES, held, sign);
     let event = stepped.event;
     let then = stepped.machine;
     match event {

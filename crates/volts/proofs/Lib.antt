@@ -1,5 +1,1 @@
 pub mod Finiteness
-pub mod Scanning
-pub mod Turns
-pub mod Rules
-pub mod Usable

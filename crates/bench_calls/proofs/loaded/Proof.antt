@@ -1,7 +1,7 @@
 -- `bench_calls::loaded` meets its contract: the message is copied in front of what was stored.
 use native.Mathlib.Omega.{arith}
 use lib.Seq.{take-length}
-use Rattle.bench_calls.proofs.Whole.{whole}
+use Rattle.bench_row.specs.Whole.{whole}
 use borrow.Author.Needs.{needs}
 use Rattle.bench_calls.proofs.loaded.Statement.{statement}
 use Rattle.bench_calls.proofs.loaded.Tie as tie

@@ -1,5 +1,5 @@
 -- `bench_row::station_at` meets its contract: past the last place the given station stands.
-use Rattle.bench_row.specs.Scan.{getD-any}
+use Rattle.loops.specs.Scan.{getD-any}
 use mathlib.Core.Path.{sym}
 use native.Mathlib.Omega.{arith}
 use lib.ListN.{List·getD-eq-default}

@@ -2,7 +2,7 @@
 use mathlib.Core.Path.{_∙_}
 use borrow.Author.Needs.{needs}
 use lib.ListN.{length}
-use Rattle.c_calls.proofs.Kinds.{no-kind, no-kind-kept, written-as}
+use Rattle.c_calls.proofs.ByKind.{no-kind, no-kind-kept, written-as}
 use Rattle.c_calls.proofs.j1850_write.Statement.{statement}
 use Rattle.c_calls.proofs.j1850_write.Tie as tie
 

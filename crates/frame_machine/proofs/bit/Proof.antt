@@ -12,7 +12,7 @@ push-requires : tie.Need-push-requires
 push-requires c κs = search needs
 
 returns : tie.Need-returns
-returns c = c .push .ensures ∙ bit-by _ _ _ _ _ _ (c .before .before .in-part .ensures) (c .before .if1 .taken) refl refl
+returns c = c .push .ensures ∙ bit-by _ _ _ _ _ _ _ (c .before .before .in-part .ensures) (c .before .if1 .taken) refl refl
 
 at-sof-requires : tie.Need-at-sof-requires
 at-sof-requires c κs = search needs
@@ -21,13 +21,13 @@ fail-requires : tie.Need-fail-requires
 fail-requires c κs = search needs
 
 returns-2 : tie.Need-returns-2
-returns-2 c = c .fail .ensures ∙ bit-by _ _ _ _ _ _ (c .before .before .before .before .in-part .ensures) (c .before .before .before .if1 .left) (c .before .before .at-sof .ensures) (c .before .if2 .taken)
+returns-2 c = c .fail .ensures ∙ bit-by _ _ _ _ _ _ _ (c .before .before .before .before .in-part .ensures) (c .before .before .before .if1 .left) (c .before .before .at-sof .ensures) (c .before .if2 .taken)
 
 begin-response-requires : tie.Need-begin-response-requires
 begin-response-requires c κs = search needs
 
 returns-3 : tie.Need-returns-3
-returns-3 c = c .begin-response .ensures ∙ bit-by _ _ _ _ _ _ (c .before .before .before .before .in-part .ensures) (c .before .before .before .if1 .left) (c .before .before .at-sof .ensures) (c .before .if2 .left)
+returns-3 c = c .begin-response .ensures ∙ bit-by _ _ _ _ _ _ _ (c .before .before .before .before .in-part .ensures) (c .before .before .before .if1 .left) (c .before .before .at-sof .ensures) (c .before .if2 .left)
 
 pub bit-spec : {M : Type 1} → statement M
 bit-spec =

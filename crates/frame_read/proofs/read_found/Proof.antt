@@ -1,4 +1,5 @@
 -- `frame_read::read_found` meets its contract: an opening with nothing behind it, or the frame that opens there.
+use Rattle.frame.specs.Line.{single}
 use Rattle.frame_read.proofs.Answers.{alone-meets, followed-meets}
 use borrow.Author.Needs.{needs}
 use Rattle.frame_read.proofs.read_found.Statement.{statement}
@@ -8,7 +9,7 @@ add-if1 : tie.Need-add-if1
 add-if1 c = search needs
 
 returns : tie.Need-returns
-returns c = alone-meets (c .before .before .before .args .intervals .now) _ _ _ (c .if1 .taken)
+returns c = alone-meets (single (c .before .before .before .args .intervals .now)) _ _ _ (c .if1 .taken)
 
 read-open-requires : tie.Need-read-open-requires
 read-open-requires c κs = search needs

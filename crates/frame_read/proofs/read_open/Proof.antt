@@ -5,17 +5,18 @@ use mathlib.Core.Path.{_≡_, refl, ap, _∙_}
 use mathlib.Core.Logic.{⊎-elim}
 use native.Mathlib.Omega.{arith}
 use lib.ListN.{length}
-use Rattle.frame.specs.Line.{firstIn, symbolAt}
+use Rattle.frame.specs.Line.{single, firstIn}
+use Rattle.frame.specs.Faults.{mostBytes}
 use Rattle.frame.specs.Reading.{decides}
-use Rattle.frame_machine.specs.Following.{Before, at-first, says-by}
+use Rattle.frame_machine.specs.Keeping.{Keeping, keeping-first}
 use Rattle.frame_read.proofs.Searching.{decides-here, decides-none}
-use Rattle.frame_read.proofs.Answers.{unfinished-meets, faulty-meets, closed-meets}
+use Rattle.frame_read.proofs.Answers.{told-by, unfinished-meets, faulty-meets, closed-meets}
 use borrow.Author.Needs.{needs}
 use Rattle.frame_read.proofs.read_open.Statement.{statement}
 use Rattle.frame_read.proofs.read_open.Tie as tie
 
 abbrev Inv-loop : tie.InvT-loop
-Inv-loop intervals opening lent₀ kept₀ held₀ i₀ lent kept held i = (i ≤ length intervals) × (lent ≡ lent₀) × Before intervals opening i held kept × (firstIn (decides intervals opening) (opening + 1) (length intervals) ≡ firstIn (decides intervals opening) i (length intervals))
+Inv-loop intervals opening lent₀ kept₀ held₀ i₀ lent kept held i = (i ≤ length intervals) × (lent ≡ lent₀) × Keeping mostBytes (single intervals) opening i held kept × (firstIn (decides mostBytes (single intervals) opening) (opening + 1) (length intervals) ≡ firstIn (decides mostBytes (single intervals) opening) i (length intervals))
 
 abbrev μ-loop : tie.MeasureT-loop
 μ-loop intervals opening lent₀ kept₀ held₀ i₀ lent kept held i = length intervals - i
@@ -27,7 +28,7 @@ add-i : tie.Need-add-i Inv-loop μ-loop
 add-i c = search needs
 
 loop-holds : tie.Need-loop-holds Inv-loop μ-loop
-loop-holds c = (search needs, refl, at-first _ _ _ _ (c .start .ensures) refl, refl)
+loop-holds c = (search needs, refl, keeping-first _ _ _ _ _ (c .start .ensures) (omega arith), refl)
 
 mul-t17 : tie.Need-mul-t17 Inv-loop μ-loop
 mul-t17 c = search needs
@@ -37,6 +38,9 @@ shared-slice-read-t19 c = search needs
 
 class-requires : tie.Need-class-requires Inv-loop μ-loop
 class-requires c κs = search needs
+
+sign-of-requires : tie.Need-sign-of-requires Inv-loop μ-loop
+sign-of-requires c κs = search needs
 
 step-requires : tie.Need-step-requires Inv-loop μ-loop
 step-requires c κs = search needs
@@ -48,8 +52,7 @@ enum-known-event : tie.Need-enum-known-event Inv-loop μ-loop
 enum-known-event c = search needs
 
 array-write-kept : tie.Need-array-write-kept Inv-loop μ-loop
-unfolding symbolAt
-array-write-kept c = let v = says-by _ _ _ _ _ (c .before .before .before .before .before .before .before .before .loop .inv .2) _ _ _ (c .before .before .before .before .before .class .ensures) (c .before .before .before .before .step .ensures) (c .before .event .given .1) in v .1 .0
+array-write-kept c = let v = told-by (c .before .before .before .before .before .before .before .before .before .before .before .before .before .args .intervals .now) _ _ _ _ (c .before .before .before .before .before .before .before .before .before .loop .inv .2) _ _ _ _ (c .before .before .before .before .before .before .class .ensures) (c .before .before .before .before .before .sign-of .ensures) (c .before .before .before .before .step .ensures) (c .before .event .given .1) in v .1 .0
 
 enum-told-2 : tie.Need-enum-told-2 Inv-loop μ-loop
 enum-told-2 c = search needs
@@ -61,11 +64,10 @@ framed-requires : tie.Need-framed-requires Inv-loop μ-loop
 framed-requires c κs = search needs
 
 same-length : tie.Need-same-length Inv-loop μ-loop
-same-length c = omega (arith, ap length (c .before .before .before .before .before .before .before .before .before .before .before .before .loop .inv .1))
+same-length c = omega (arith, ap length (c .before .before .before .before .before .before .before .before .before .before .before .before .before .loop .inv .1))
 
 returns : tie.Need-returns Inv-loop μ-loop
-unfolding symbolAt
-returns c = let v = says-by _ _ _ _ _ (c .before .before .before .before .before .before .before .before .before .before .before .before .loop .inv .2) _ _ _ (c .before .before .before .before .before .before .before .before .before .class .ensures) (c .before .before .before .before .before .before .before .before .step .ensures) (c .before .before .before .before .before .enum-told2 .given .1) in closed-meets _ _ _ _ (c .before .before .before .before .before .before .before .before .before .before .before .before .loop .inv .1) _ _ _ _ _ (c .before .before .before .before .before .before .before .before .before .before .before .before .loop .inv .3 ∙ decides-here _ _ _ _ (c .before .before .before .before .before .before .before .before .before .before .before .loop-test .taken) (v .0)) (v .1 .0) (v .1 .1) (rw (c .before .before .before .before .before .before .before .before .before .before .before .before .loop .inv .1) (c .before .before .before .before .before .before .before .before .before .before .before .before .before .before .before .before .pre .1)) (c .before .before .before .lay .ensures) (c .framed .ensures)
+returns c = let v = told-by (c .before .before .before .before .before .before .before .before .before .before .before .before .before .before .before .before .before .args .intervals .now) _ _ _ _ (c .before .before .before .before .before .before .before .before .before .before .before .before .before .loop .inv .2) _ _ _ _ (c .before .before .before .before .before .before .before .before .before .before .class .ensures) (c .before .before .before .before .before .before .before .before .before .sign-of .ensures) (c .before .before .before .before .before .before .before .before .step .ensures) (c .before .before .before .before .before .enum-told2 .given .1) in closed-meets (single (c .before .before .before .before .before .before .before .before .before .before .before .before .before .before .before .before .before .args .intervals .now)) _ _ _ (c .before .before .before .before .before .before .before .before .before .before .before .before .before .loop .inv .1) _ _ _ _ _ (c .before .before .before .before .before .before .before .before .before .before .before .before .before .loop .inv .3 ∙ decides-here (c .before .before .before .before .before .before .before .before .before .before .before .before .before .before .before .before .before .args .intervals .now) _ _ _ (c .before .before .before .before .before .before .before .before .before .before .before .before .loop-test .taken) (v .0)) (v .1 .0) (v .1 .1) (rw (c .before .before .before .before .before .before .before .before .before .before .before .before .before .loop .inv .1) (c .before .before .before .before .before .before .before .before .before .before .before .before .before .before .before .before .before .pre .1)) (c .before .before .before .lay .ensures) (c .framed .ensures)
 
 enum-known-event-2 : tie.Need-enum-known-event-2 Inv-loop μ-loop
 enum-known-event-2 c = search needs
@@ -74,8 +76,7 @@ same-length-2 : tie.Need-same-length-2 Inv-loop μ-loop
 same-length-2 c = search needs
 
 returns-2 : tie.Need-returns-2 Inv-loop μ-loop
-unfolding symbolAt
-returns-2 c = let v = says-by _ _ _ _ _ (c .before .before .before .before .before .before .before .before .loop .inv .2) _ _ _ (c .before .before .before .before .before .class .ensures) (c .before .before .before .before .step .ensures) (c .before .event2 .given .1) in faulty-meets _ _ _ _ (c .before .before .before .before .before .before .before .before .loop .inv .1) _ _ (c .before .before .before .before .before .before .before .before .loop .inv .3 ∙ decides-here _ _ _ _ (c .before .before .before .before .before .before .before .loop-test .taken) (v .0)) (v .1)
+returns-2 c = let v = told-by (c .before .before .before .before .before .before .before .before .before .before .before .before .before .args .intervals .now) _ _ _ _ (c .before .before .before .before .before .before .before .before .before .loop .inv .2) _ _ _ _ (c .before .before .before .before .before .before .class .ensures) (c .before .before .before .before .before .sign-of .ensures) (c .before .before .before .before .step .ensures) (c .before .event2 .given .1) in faulty-meets (single (c .before .before .before .before .before .before .before .before .before .before .before .before .before .args .intervals .now)) _ _ _ (c .before .before .before .before .before .before .before .before .before .loop .inv .1) _ _ (c .before .before .before .before .before .before .before .before .before .loop .inv .3 ∙ decides-here (c .before .before .before .before .before .before .before .before .before .before .before .before .before .args .intervals .now) _ _ _ (c .before .before .before .before .before .before .before .before .loop-test .taken) (v .0)) (v .1)
 
 add-i-2 : tie.Need-add-i-2 Inv-loop μ-loop
 add-i-2 c = search needs
@@ -84,14 +85,13 @@ loop-less : tie.Need-loop-less Inv-loop μ-loop
 loop-less c = search needs
 
 loop-again : tie.Need-loop-again Inv-loop μ-loop
-unfolding symbolAt
-loop-again c = ⊎-elim (λ w. let v = says-by _ _ _ _ _ (c .before .before .before .before .before .before .loop .inv .2) _ _ _ (c .before .before .before .class .ensures) (c .before .before .step .ensures) (w .1 .given .1) in (search needs, c .before .before .before .before .before .before .loop .inv .1, rw (w .2) (v .1), c .before .before .before .before .before .before .loop .inv .3 ∙ decides-here _ _ _ _ (c .before .before .before .before .before .loop-test .taken) (v .0))) (λ w. let v = says-by _ _ _ _ _ (c .before .before .before .before .before .before .loop .inv .2) _ _ _ (c .before .before .before .class .ensures) (c .before .before .step .ensures) (w .1 .given .1) in (search needs, c .before .before .before .before .before .before .loop .inv .1, rw (w .3) (v .1 .1), c .before .before .before .before .before .before .loop .inv .3 ∙ decides-here _ _ _ _ (c .before .before .before .before .before .loop-test .taken) (v .0))) (c .match .came)
+loop-again c = ⊎-elim (λ w. let v = told-by (c .before .before .before .before .before .before .before .before .before .before .before .args .intervals .now) _ _ _ _ (c .before .before .before .before .before .before .before .loop .inv .2) _ _ _ _ (c .before .before .before .before .class .ensures) (c .before .before .before .sign-of .ensures) (c .before .before .step .ensures) (w .1 .given .1) in (search needs, c .before .before .before .before .before .before .before .loop .inv .1, rw (w .2) (v .1), c .before .before .before .before .before .before .before .loop .inv .3 ∙ decides-here (c .before .before .before .before .before .before .before .before .before .before .before .args .intervals .now) _ _ _ (c .before .before .before .before .before .before .loop-test .taken) (v .0))) (λ w. let v = told-by (c .before .before .before .before .before .before .before .before .before .before .before .args .intervals .now) _ _ _ _ (c .before .before .before .before .before .before .before .loop .inv .2) _ _ _ _ (c .before .before .before .before .class .ensures) (c .before .before .before .sign-of .ensures) (c .before .before .step .ensures) (w .1 .given .1) in (search needs, c .before .before .before .before .before .before .before .loop .inv .1, rw (w .3) (v .1 .1), c .before .before .before .before .before .before .before .loop .inv .3 ∙ decides-here (c .before .before .before .before .before .before .before .before .before .before .before .args .intervals .now) _ _ _ (c .before .before .before .before .before .before .loop-test .taken) (v .0))) (c .match .came)
 
 same-length-3 : tie.Need-same-length-3 Inv-loop μ-loop
 same-length-3 c = search needs
 
 returns-3 : tie.Need-returns-3 Inv-loop μ-loop
-returns-3 c = unfinished-meets _ _ _ _ (c .before .loop .inv .1) (c .before .loop .inv .3 ∙ decides-none _ _ _ (c .loop-test .left))
+returns-3 c = unfinished-meets (single (c .before .before .before .before .before .args .intervals .now)) _ _ _ (c .before .loop .inv .1) (c .before .loop .inv .3 ∙ decides-none (c .before .before .before .before .before .args .intervals .now) _ _ (c .loop-test .left))
 
 pub read-open-spec : {M : Type 1} → statement M
 read-open-spec =
@@ -105,6 +105,7 @@ read-open-spec =
     mul-t17
     shared-slice-read-t19
     class-requires
+    sign-of-requires
     step-requires
     enum-told
     enum-known-event

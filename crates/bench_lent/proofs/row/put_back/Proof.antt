@@ -50,7 +50,7 @@ use Rattle.bench.specs.Stations.{blank}
 use Rattle.bench.proofs.Station as T
 use Rattle.bench.proofs.Station.Laws as T′
 use Rattle.bench_row.specs.declared.Bench.{Bench}
-use Rattle.bench_row.specs.Scan.{filled, fill-start, fill-ahead, fill-more, fill-length, fill-all}
+use Rattle.loops.specs.Scan.{filled, fill-start, fill-ahead, fill-more, fill-length, fill-all}
 use Rattle.bench_lent.specs.Restoring.{putBack, put-length}
 use Rattle.walks.specs.Walk.{Places, envOf, Locals, allocs-all, frees-all, calls-plain, tests, upFrom, lies}
 use Rattle.bench_lent.proofs.Cells.{scaled}

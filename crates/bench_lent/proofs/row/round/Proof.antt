@@ -42,7 +42,7 @@ use Rattle.bench.proofs.Station as T
 use Rattle.bench.proofs.RoundAnswer as N
 use Rattle.bench.proofs.RoundAnswer.Laws as N′
 use Rattle.bench_row.specs.declared.Bench.{Bench}
-use Rattle.bench_round.specs.declared.playing.Played.{Played}
+use Rattle.bench_round.specs.declared.Played.{Played}
 use Rattle.bench_row.specs.Benches.{benchOf}
 use Rattle.bench_round.specs.Rounds.{PlayedBy}
 use Rattle.bench_lent.specs.Restoring.{putBack, put-length}
@@ -51,8 +51,8 @@ use Rattle.walks.specs.Walk.{envOf, allocs-all, frees-all, upFrom, lies}
 use Rattle.bench_lent.proofs.Passing.{bval, Gathered, PutBack, calls-gathered, calls-put-back}
 use Rattle.bench_row.proofs.Bench as B
 use Rattle.bench_row.proofs.Bench.Laws as B′
-use Rattle.bench_round.proofs.playing.Played as P
-use Rattle.bench_round.proofs.playing.Played.Laws as P′
+use Rattle.bench_round.proofs.Played as P
+use Rattle.bench_round.proofs.Played.Laws as P′
 use Rattle.bench_lent.proofs.row.gathered.Symbol as gathered-def
 use Rattle.bench_lent.proofs.row.gathered.Symbol.{name as #gathered}
 use Rattle.bench_lent.proofs.row.gathered.Met as gathered-thm

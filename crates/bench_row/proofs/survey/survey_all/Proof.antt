@@ -2,6 +2,7 @@
 use Prim.Native.Nat.{_≤_}
 use mathlib.Core.Path.{_≡_}
 use lib.ListN.{length, drop}
+use Rattle.bench.specs.Stations.{mostStations}
 use Rattle.bench_row.specs.Surveys.{surveyOf}
 use Rattle.bench_row.specs.SurveyLaws.{survey-start, survey-more, survey-end}
 use borrow.Author.Needs.{needs}
@@ -9,7 +10,7 @@ use Rattle.bench_row.proofs.survey.survey_all.Statement.{statement}
 use Rattle.bench_row.proofs.survey.survey_all.Tie as tie
 
 abbrev Inv-loop : tie.InvT-loop
-Inv-loop row all₀ i₀ all i = (i ≤ 32) × (length row ≡ 32) × (all ≡ surveyOf (drop i row))
+Inv-loop row all₀ i₀ all i = (i ≤ mostStations) × (length row ≡ mostStations) × (all ≡ surveyOf (drop i row))
 
 abbrev μ-loop : tie.MeasureT-loop
 μ-loop row all₀ i₀ all i = i

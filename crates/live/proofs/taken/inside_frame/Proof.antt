@@ -19,6 +19,9 @@ held-by-requires c κs = search needs
 class-requires : tie.Need-class-requires
 class-requires c κs = search needs
 
+sign-of-requires : tie.Need-sign-of-requires
+sign-of-requires c κs = search needs
+
 step-requires : tie.Need-step-requires
 step-requires c κs = search needs
 
@@ -32,7 +35,7 @@ enum-known-event : tie.Need-enum-known-event
 enum-known-event c = search needs
 
 array-write-kept : tie.Need-array-write-kept
-array-write-kept c = has-room (c .before .before .before .before .before .before .held-by .result) (c .before .before .before .before .before .class .result) _ _ (c .before .before .before .before .step .ensures) (c .before .event .given .1)
+array-write-kept c = has-room _ (c .before .before .before .before .before .before .before .held-by .result) (c .before .before .before .before .before .sign-of .result) _ _ (c .before .before .before .before .step .ensures) (c .before .event .given .1)
 
 going-requires-2 : tie.Need-going-requires-2
 going-requires-2 c κs = search needs
@@ -53,19 +56,19 @@ at-fault-requires : tie.Need-at-fault-requires
 at-fault-requires c κs = search needs
 
 returns : tie.Need-returns
-returns c = let a = c .before .before .before .before .before .before .before .before .before .before .before .before .before .args in let s = steps-by (a .live) (a .width .0) _ _ _ _ _ (c .before .before .before .before .before .before .before .before .active-at .ensures) (c .before .before .before .before .before .before .before .is-end .ensures) (c .before .before .before .before .before .before .held-by .ensures) (c .before .before .before .before .before .class .ensures) (c .before .before .before .before .step .ensures) in (c .going .ensures ∙ fed-by _ _ _ _ s _ (c .before .enum-told .given .1), laid-by _ _ _ _ s _ (c .before .enum-told .given .1) _)
+returns c = let a = c .before .before .before .before .before .before .before .before .before .before .before .before .before .before .args in let s = steps-by (a .live) (a .width .0) _ _ _ _ _ _ (c .before .before .before .before .before .before .before .before .before .active-at .ensures) (c .before .before .before .before .before .before .before .before .is-end .ensures) (c .before .before .before .before .before .before .before .held-by .ensures) (c .before .before .before .before .before .before .class .ensures) (c .before .before .before .before .before .sign-of .ensures) (c .before .before .before .before .step .ensures) in (c .going .ensures ∙ fed-by _ _ _ _ s _ (c .before .enum-told .given .1), laid-by _ _ _ _ s _ (c .before .enum-told .given .1) _)
 
 returns-2 : tie.Need-returns-2
-returns-2 c = let a = c .before .before .before .before .before .before .before .before .before .before .before .before .before .before .args in let s = steps-by (a .live) (a .width .0) _ _ _ _ _ (c .before .before .before .before .before .before .before .before .before .active-at .ensures) (c .before .before .before .before .before .before .before .before .is-end .ensures) (c .before .before .before .before .before .before .before .held-by .ensures) (c .before .before .before .before .before .before .class .ensures) (c .before .before .before .before .before .step .ensures) in (rw (c .before .before .before .before .before .before .before .held-by .ensures) at (c .going2 .ensures) ∙ fed-by _ _ _ _ s _ (c .before .before .event .given .1), laid-by _ _ _ _ s _ (c .before .before .event .given .1) _)
+returns-2 c = let a = c .before .before .before .before .before .before .before .before .before .before .before .before .before .before .before .args in let s = steps-by (a .live) (a .width .0) _ _ _ _ _ _ (c .before .before .before .before .before .before .before .before .before .before .active-at .ensures) (c .before .before .before .before .before .before .before .before .before .is-end .ensures) (c .before .before .before .before .before .before .before .before .held-by .ensures) (c .before .before .before .before .before .before .before .class .ensures) (c .before .before .before .before .before .before .sign-of .ensures) (c .before .before .before .before .before .step .ensures) in (rw (c .before .before .before .before .before .before .before .before .held-by .ensures) at (c .going2 .ensures) ∙ fed-by _ _ _ _ s _ (c .before .before .event .given .1), laid-by _ _ _ _ s _ (c .before .before .event .given .1) _)
 
 same-length : tie.Need-same-length
 same-length c = search needs
 
 returns-3 : tie.Need-returns-3
-returns-3 c = let a = c .before .before .before .before .before .before .before .before .before .before .before .before .before .before .before .before .before .args in let s = steps-by (a .live) (a .width .0) _ _ _ _ _ (c .before .before .before .before .before .before .before .before .before .before .before .before .active-at .ensures) (c .before .before .before .before .before .before .before .before .before .before .before .is-end .ensures) (c .before .before .before .before .before .before .before .before .before .before .held-by .ensures) (c .before .before .before .before .before .before .before .before .before .class .ensures) (c .before .before .before .before .before .before .before .before .step .ensures) in (rw (c .before .before .before .before .before .before .before .before .before .before .held-by .ensures) at (c .closed .ensures) ∙ fed-by _ _ _ _ s _ (c .before .before .before .before .before .enum-told2 .given .1), rw (c .before .before .before .before .before .before .before .before .before .before .held-by .ensures) at (c .before .before .before .lay .ensures) ∙ laid-held (a .live .inside) (now (a .lent)) (c .before .before .before .before .before .before .before .before .before .before .before .before .before .before .before .before .before .pre) ∙ laid-by _ _ _ _ s _ (c .before .before .before .before .before .enum-told2 .given .1) _)
+returns-3 c = let a = c .before .before .before .before .before .before .before .before .before .before .before .before .before .before .before .before .before .before .args in let s = steps-by (a .live) (a .width .0) _ _ _ _ _ _ (c .before .before .before .before .before .before .before .before .before .before .before .before .before .active-at .ensures) (c .before .before .before .before .before .before .before .before .before .before .before .before .is-end .ensures) (c .before .before .before .before .before .before .before .before .before .before .before .held-by .ensures) (c .before .before .before .before .before .before .before .before .before .before .class .ensures) (c .before .before .before .before .before .before .before .before .before .sign-of .ensures) (c .before .before .before .before .before .before .before .before .step .ensures) in (rw (c .before .before .before .before .before .before .before .before .before .before .before .held-by .ensures) at (c .closed .ensures) ∙ fed-by _ _ _ _ s _ (c .before .before .before .before .before .enum-told2 .given .1), rw (c .before .before .before .before .before .before .before .before .before .before .before .held-by .ensures) at (c .before .before .before .lay .ensures) ∙ laid-held (a .live .inside) (now (a .lent)) (c .before .before .before .before .before .before .before .before .before .before .before .before .before .before .before .before .before .before .pre) ∙ laid-by _ _ _ _ s _ (c .before .before .before .before .before .enum-told2 .given .1) _)
 
 returns-4 : tie.Need-returns-4
-returns-4 c = let a = c .before .before .before .before .before .before .before .before .before .before .before .before .before .before .args in let s = steps-by (a .live) (a .width .0) _ _ _ _ _ (c .before .before .before .before .before .before .before .before .before .active-at .ensures) (c .before .before .before .before .before .before .before .before .is-end .ensures) (c .before .before .before .before .before .before .before .held-by .ensures) (c .before .before .before .before .before .before .class .ensures) (c .before .before .before .before .before .step .ensures) in (c .at-fault .ensures ∙ fed-by _ _ _ _ s _ (c .before .before .event2 .given .1), laid-by _ _ _ _ s _ (c .before .before .event2 .given .1) _)
+returns-4 c = let a = c .before .before .before .before .before .before .before .before .before .before .before .before .before .before .before .args in let s = steps-by (a .live) (a .width .0) _ _ _ _ _ _ (c .before .before .before .before .before .before .before .before .before .before .active-at .ensures) (c .before .before .before .before .before .before .before .before .before .is-end .ensures) (c .before .before .before .before .before .before .before .before .held-by .ensures) (c .before .before .before .before .before .before .before .class .ensures) (c .before .before .before .before .before .before .sign-of .ensures) (c .before .before .before .before .before .step .ensures) in (c .at-fault .ensures ∙ fed-by _ _ _ _ s _ (c .before .before .event2 .given .1), laid-by _ _ _ _ s _ (c .before .before .event2 .given .1) _)
 
 pub inside-frame-spec : {M : Type 1} → statement M
 inside-frame-spec =
@@ -75,6 +78,7 @@ inside-frame-spec =
     is-end-requires
     held-by-requires
     class-requires
+    sign-of-requires
     step-requires
     enum-told
     going-requires

@@ -1,0 +1,16 @@
+-- A law of one place.
+use Prim.Native.Nat.{ℕ}
+use mathlib.Core.Path.{_≡_, refl}
+use mathlib.Core.Bool.{Bool, true, false, cond}
+use lib.Dec.{eqb, ltb}
+use Rattle.bench_lane.specs.declared.Ask.the-variants.{Out}
+use Rattle.bench_lane.specs.Lane.{Lane, askOf}
+
+-- A place that has lost is out, whatever else there is of it.
+pub out-lost : (lane : Lane) (active : Bool) (j : ℕ) → ltb 0 (lane .lost) ≡ true → askOf lane active j ≡ Out
+unfolding askOf
+out-lost lane active j h = rw h (either (eqb (lane .count) 0))
+  where
+    either : (b : Bool) → cond b Out Out ≡ Out
+    either true = refl
+    either false = refl

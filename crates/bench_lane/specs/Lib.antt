@@ -1,0 +1,2 @@
+pub mod Lane
+pub mod LaneLaws

@@ -1,0 +1,114 @@
+-- Laws of the loops over the stations of a row: an array that has something of each station, and what one station brings.
+use Prim.Native.Nat.{ℕ, zero, suc, _+_, _*_, _-_, _≤_, _<_, min}
+use mathlib.Core.Path.{_≡_, refl, sym, subst, ap, ap₂, _∙_}
+use mathlib.Core.List.{List, [], _∷_, _++_, map, append-assoc}
+use native.Mathlib.Omega.{arith}
+use lib.ListN.{length, take, drop, getD, set, replicate, length-append}
+use lib.Seq.{length-take-le, take-all, set-at}
+use borrow.Author.Tests.{eq-eqb, ne-eqb}
+use Rattle.checkbyte.specs.Register.{checkOf}
+use Rattle.bench.specs.declared.Station.{Station}
+use Rattle.bench.specs.declared.Verdict.{Verdict}
+use Rattle.bench.specs.Stations.{mostStations, mostStored, stored, blank}
+use Rattle.bench.specs.Contest.{verdictOf}
+use Rattle.loops.specs.Scan.{from, map-from, from-list, getD-any, filled, fill-start, fill-more, fill-all}
+use Rattle.bench_line.specs.Lanes.{mostSent}
+use Rattle.bench_line.specs.Seats.{faredIn, faresAt}
+use Rattle.bench_line.specs.Entries.{countOf, frameOf, clipped, clippedCount, clippedFrame, verdictsAt}
+
+-- ## An array that has something of each station
+
+-- the array while it is filled, at place i
+pub record Filled {B : Type 0} (f : Station → B) (row : List Station) (first now : List B) (i : ℕ) : Type 0 where
+  pub inside : i ≤ mostStations
+  pub whole : length row ≡ mostStations
+  pub space : length first ≡ mostStations
+  pub so-far : now ≡ filled (λ (p : ℕ). f (getD row p blank)) first i
+
+module _ {B : Type 0} (f : Station → B) where
+  -- nothing is filled at first ..
+  pub each-start : (row : List Station) (first : List B) → length row ≡ mostStations → length first ≡ mostStations → Filled f row first first 0
+  each-start row first n m = record { inside = omega arith; whole = n; space = m; so-far = fill-start (λ (p : ℕ). f (getD row p blank)) first }
+
+  module _ {row : List Station} {first now : List B} {i : ℕ} (so : Filled f row first now i) where
+    -- .. then one place more ..
+    pub each-more : i < mostStations → (d : Station) (x : B) → x ≡ f (getD row i d) → Filled f row first (set now i x) (i + 1)
+    each-more h d x e =
+        let g : ℕ → B = λ (p : ℕ). f (getD row p blank) in
+        record {
+          inside = omega arith;
+          whole = so .whole;
+          space = so .space;
+          so-far =
+              ap (λ (r : List B). set r i x) (so .so-far)
+              ∙ fill-more g first i x x (omega (arith, so .space)) (e ∙ ap f (getD-any row i d blank (omega (arith, so .whole))));
+        }
+
+    -- .. and at the end every place has what belongs to its station.
+    pub each-all : mostStations ≤ i → now ≡ map f row
+    each-all h =
+        so .so-far ∙ fill-all (λ (p : ℕ). f (getD row p blank)) first i mostStations (so .space) h (so .inside)
+        ∙ ap (from (λ (p : ℕ). f (getD row p blank)) 0) (sym (so .whole)) ∙ from-list f row blank
+
+-- ## What one station brings
+
+-- Its bits: none where it is empty, since then no check byte is sent either ..
+pub count-none : (s : Station) → s .len ≡ 0 → 0 ≡ clippedCount s
+unfolding countOf
+count-none s e = rw (eq-eqb (min (s .len) mostStored) 0 (omega arith))
+
+-- .. and otherwise eight for each byte, the check byte included.
+pub count-some : (s : Station) → (s .len ≡ 0 → ⊥) → length (s .bytes) ≡ mostStored → (min (s .len) mostStored + 1) * 8 ≡ clippedCount s
+unfolding countOf
+count-some s e h =
+    rw (ne-eqb (min (s .len) mostStored) 0 (λ z. e (omega arith)))
+    (omega (arith, length-append (stored (clipped s)) (checkOf (stored (clipped s)) ∷ []), length-take-le (min (s .len) mostStored) (s .bytes) (omega arith)))
+
+zeros-left : (a b : ℕ) → drop a (replicate {A = ℕ} (a + b) 0) ≡ replicate b 0
+zeros-left zero b = let z : 0 + b ≡ b = omega arith in rw z
+zeros-left (suc a) b = let z : suc a + b ≡ suc (a + b) = omega arith in rw z (zeros-left a b)
+
+-- bytes in front of zeros, and one byte more after them
+laid : (m : List ℕ) (n c : ℕ) → length m ≡ n → n ≤ mostStored → set (m ++ drop n (replicate {A = ℕ} mostSent 0)) n c ≡ (m ++ (c ∷ [])) ++ replicate (mostStored - length m) 0
+laid m n c e h =
+    let z : mostSent ≡ n + suc (mostStored - length m) = omega arith in
+    ap (λ (x : ℕ). set (m ++ drop n (replicate {A = ℕ} x 0)) n c) z
+    ∙ ap (λ (x : List ℕ). set (m ++ x) n c) (zeros-left n (suc (mostStored - length m)))
+    ∙ set-at m 0 (replicate (mostStored - length m) 0) c n e
+    ∙ sym (append-assoc m (c ∷ []) (replicate (mostStored - length m) 0))
+
+-- its frame: the bytes, the check byte, and zeros
+frame-is : (s : Station) → s .len ≤ mostStored → length (s .bytes) ≡ mostStored → (m : ℕ) → m ≡ length (stored s) → (now : List ℕ)
+    → now ≡ take m (stored s) ++ drop m (replicate {A = ℕ} mostSent 0) → (c : ℕ) → c ≡ checkOf (stored s) → set now (s .len) c ≡ frameOf s
+unfolding frameOf
+frame-is s h w m k now e c f =
+    let n : length (stored s) ≡ s .len = length-take-le (s .len) (s .bytes) (omega arith) in
+    ap (λ (r : List ℕ). set r (s .len) c) (e ∙ ap₂ (λ (x : List ℕ) (y : ℕ). x ++ drop y (replicate {A = ℕ} mostSent 0)) (take-all m (stored s) (omega arith)) (k ∙ n))
+    ∙ laid (stored s) (s .len) c n h
+    ∙ ap (λ (x : ℕ). (stored s ++ (x ∷ [])) ++ replicate (mostStored - length (stored s)) 0) f
+
+-- The same with the stored length by another name.
+pub frame-at : (s : Station) → length (s .bytes) ≡ mostStored → (n : ℕ) → n ≡ min (s .len) mostStored → (now : List ℕ)
+    → now ≡ take (length (take n (s .bytes))) (take n (s .bytes)) ++ drop (length (take n (s .bytes))) (replicate {A = ℕ} mostSent 0)
+    → (c : ℕ) → c ≡ checkOf (take n (s .bytes)) → set now n c ≡ clippedFrame s
+frame-at s w n e =
+    subst
+    (λ (k : ℕ). (now : List ℕ)
+    → now ≡ take (length (take k (s .bytes))) (take k (s .bytes)) ++ drop (length (take k (s .bytes))) (replicate {A = ℕ} mostSent 0)
+    → (c : ℕ) → c ≡ checkOf (take k (s .bytes)) → set now k c ≡ clippedFrame s)
+    (sym e)
+    (frame-is (clipped s) (omega arith) w (length (stored (clipped s))) refl)
+
+-- ## The verdicts
+
+module _ (counts lost : List ℕ) where
+  -- the verdict of one place
+  unfoldable pub verdictAt : ℕ → Verdict
+  verdictAt i = verdictOf (faredIn (getD counts i 0) (getD lost i 0))
+
+  -- An array that is filled with them to its end has the verdicts of the round.
+  pub verdicts-end : (first now : List Verdict) (i : ℕ) → length first ≡ mostStations → mostStations ≤ i → i ≤ mostStations → now ≡ filled verdictAt first i → now ≡ verdictsAt counts lost
+  unfolding verdictAt faresAt
+  verdicts-end first now i n lo hi e =
+      e ∙ fill-all verdictAt first i mostStations n lo hi
+      ∙ sym (map-from verdictOf (λ (p : ℕ). faredIn (getD counts p 0) (getD lost p 0)) 0 mostStations)

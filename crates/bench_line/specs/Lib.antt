@@ -1,0 +1,10 @@
+pub mod Lanes
+pub mod LoopLaws
+pub mod Seats
+pub mod SeatLaws
+pub mod Sending
+pub mod Entries
+pub mod EntryLaws
+pub mod Starting
+pub mod Contending
+pub mod ContendLaws

@@ -1,0 +1,100 @@
+// The lanes of a round: for each of 32 places the bits that it has to send, with their check byte, the two widths of its
+// clock, and the bit at which it lost. They are kept as plain arrays, one for each of these, so that a round of thousands
+// of small steps copies nothing.
+//
+//     counts   how many bits a place has to send; 0 where it is empty
+//     frames   the bytes that it sends, check byte included
+//     shorts   the short bit of its clock
+//     longs    the long bit of its clock
+//     lost     the bit at which it lost, counted from 1 after the SOF; 0 while it remains
+ghost use Prim.Native.Nat.{_<_};
+ghost use mathlib.Core.Path.{_≡_};
+ghost use lib.ListN.{length};
+ghost use Rattle.bench.specs.Stations.{mostStations};
+ghost use Rattle.bench.specs.Round.{mostBits, onLine};
+ghost use Rattle.bench_lane.specs.Lane.{askOf};
+ghost use Rattle.bench_line.specs.Lanes.{lanesOf, laneAt, asksAt, allAsked, lostAll};
+use bench::MOST_SENT;
+use bench::MOST_STATIONS;
+use bench_lane::Ask;
+use bench_lane::Asked;
+use bench_lane::BITS_OF_BYTE;
+use symbol::Symbol;
+use units::Micros;
+
+// What place i asks of the line at bit j, both from 0 on.
+fn asks_at(
+    counts: &[usize; MOST_STATIONS],
+    frames: &[[u8; MOST_SENT]; MOST_STATIONS],
+    shorts: &[u32; MOST_STATIONS],
+    longs: &[u32; MOST_STATIONS],
+    lost: &[usize; MOST_STATIONS],
+    active: bool,
+    i: usize,
+    j: usize,
+) -> Ask
+    requires { ⌜ (i < mostStations) × (j < mostBits) ⌝ }
+    ensures { λ r. ⌜ r ≡ askOf (laneAt (lanesOf (now (counts .entry)) (now (frames .entry)) (now (shorts .entry)) (now (longs .entry))) (now (lost .entry)) j i) active j ⌝ }
+{
+    let byte = frames[i][j / BITS_OF_BYTE];
+    bench_lane::asks(counts[i], byte, shorts[i], longs[i], lost[i], active, j)
+}
+
+// What all places ask of the line at bit j.
+pub(crate) fn all_ask(
+    counts: &[usize; MOST_STATIONS],
+    frames: &[[u8; MOST_SENT]; MOST_STATIONS],
+    shorts: &[u32; MOST_STATIONS],
+    longs: &[u32; MOST_STATIONS],
+    lost: &[usize; MOST_STATIONS],
+    active: bool,
+    j: usize,
+) -> Asked
+    requires { ⌜ j < mostBits ⌝ }
+    ensures { λ r. ⌜ r ≡ allAsked active (asksAt (lanesOf (now (counts .entry)) (now (frames .entry)) (now (shorts .entry)) (now (longs .entry))) (now (lost .entry)) active j) ⌝ }
+{
+    let mut all = Asked {
+        some: false,
+        width: 0,
+    };
+    let mut i = MOST_STATIONS;
+    while 0 < i {
+        i -= 1;
+        let ask = asks_at(counts, frames, shorts, longs, lost, active, i, j);
+        all = bench_lane::taken_in(all, ask, active);
+    }
+    all
+}
+
+// Every place hears bit j.
+pub(crate) fn hear(
+    counts: &[usize; MOST_STATIONS],
+    frames: &[[u8; MOST_SENT]; MOST_STATIONS],
+    shorts: &[u32; MOST_STATIONS],
+    longs: &[u32; MOST_STATIONS],
+    lost: &mut [usize; MOST_STATIONS],
+    active: bool,
+    j: usize,
+    one: bool,
+)
+    requires { ⌜ (j < mostBits) × (length (now lost) ≡ mostStations) ⌝ }
+    ensures { λ _. ⌜ now (lost .exit) ≡ lostAll (lanesOf (now (counts .entry)) (now (frames .entry)) (now (shorts .entry)) (now (longs .entry))) (now (lost .entry)) active j one ⌝ }
+{
+    let mut i = 0;
+    while i < MOST_STATIONS {
+        let ask = asks_at(counts, frames, shorts, longs, lost, active, i, j);
+        lost[i] = bench_lane::lost_by(ask, lost[i], j + 1, one);
+        i += 1;
+    }
+}
+
+// The bit on the line: the one that the table of symbols gives to its width, at its level.
+pub(crate) fn on_line(active: bool, width: u32) -> bool
+    ensures { λ r. ⌜ r ≡ onLine active width ⌝ }
+{
+    let symbol = symbol::class(active, Micros(width));
+    match symbol {
+        Symbol::Bit1 => true,
+        _ => false,
+    }
+}

@@ -1,0 +1,4 @@
+pub mod Scanning
+pub mod Turns
+pub mod Rules
+pub mod Usable

@@ -1,0 +1,116 @@
+// From volts to intervals, over a whole trace. A trace of samples, one a microsecond, becomes the widths of the stretches at
+// which the line stays passive or active, and every trace that cannot be trusted is turned away with a reason of its own.
+ghost use mathlib.Core.Path.{_≡_};
+ghost use Prim.Native.Nat.{_≤_, _<_};
+ghost use mathlib.Core.Bool.{false};
+ghost use mathlib.Core.List.{_++_};
+ghost use lib.ListN.{length, drop};
+ghost use Rattle.volts.specs.Levels.{levelAfter, isUnusable};
+ghost use Rattle.volts.specs.Intervals.{intervalsOf};
+ghost use Rattle.volts.specs.Tracing.{mostSamples, sampleUnusable, Promise};
+use units::Micros;
+use units::Place;
+use volts::Gate;
+use volts::Judged;
+use volts::MOST_SAMPLES;
+use volts::Traced;
+
+// Whether a judgement says that its sample cannot be used.
+fn unusable(judged: Judged) -> bool
+    ensures { λ r. ⌜ r ≡ isUnusable judged ⌝ }
+{
+    match judged {
+        Judged::Active(_) => false,
+        Judged::Passive(_) => false,
+        Judged::Between(_) => false,
+        Judged::Unusable => true,
+    }
+}
+
+// Whether the line is active after a judged sample, given whether it was before.
+fn level_after(active: bool, judged: Judged) -> bool
+    ensures { λ r. ⌜ r ≡ levelAfter active judged ⌝ }
+{
+    match judged {
+        Judged::Active(_) => true,
+        Judged::Passive(_) => false,
+        Judged::Between(_) => active,
+        Judged::Unusable => active,
+    }
+}
+
+// Whether any sample of a trace cannot be used. This pass comes before the first word is written, so that a trace that is
+// turned away leaves the lent words as they were.
+fn some_unusable(gate: Gate, samples: &[f32]) -> bool
+    ensures { λ r. ⌜ r ≡ sampleUnusable gate (now (samples .entry)) ⌝ }
+{
+    let mut i = 0usize;
+    while i < samples.len() {
+        if unusable(volts::judge(gate, samples[i])) {
+            return true;
+        }
+        i += 1;
+    }
+    false
+}
+
+// Writes the intervals of a trace to the front of the lent words and answers how many there are. The line starts passive,
+// so a trace that begins active has a first interval of 0. Every sample is known to be usable, and none is tested again.
+fn write_intervals(gate: Gate, samples: &[f32], words: &mut [u32]) -> usize
+    requires { ⌜ sampleUnusable gate (now samples) ≡ false ⌝ }
+    requires { ⌜ (0 < length (now samples)) × (length (now samples) ≤ mostSamples) × (length (now samples) < length (now words)) ⌝ }
+    ensures { λ r. ⌜ (r ≡ length (intervalsOf gate (now (samples .entry)))) × (now (words .exit) ≡ intervalsOf gate (now (samples .entry)) ++ drop r (now (words .entry))) ⌝ }
+{
+    let mut next = Place(0);
+    let mut width = Micros(0);
+    let mut active = false;
+    let mut i = 0usize;
+    while i < samples.len() {
+        let level = level_after(
+            active,
+            volts::against_levels(gate, samples[i] - gate.offset),
+        );
+        let lasted = width.0;
+        if level == active {
+            let longer = lasted + 1;
+            width = Micros(longer);
+        } else {
+            let at = next.0;
+            words[at] = lasted;
+            let after = at + 1;
+            next = Place(after);
+            width = Micros(1);
+        }
+        active = level;
+        i += 1;
+    }
+    let at = next.0;
+    words[at] = width.0;
+    at + 1
+}
+
+// The intervals of a trace: how long the line stays passive, then active, then passive again, in microseconds, from the
+// first sample to the last. They are written to the front of the lent words, which must be one more than the samples, and
+// the answer is how many were written. A trace that is too long, a gate that cannot judge, too few lent words or a sample
+// that cannot be used is turned away, in this order, and then no word is changed.
+pub fn intervals(gate: Gate, samples: &[f32], words: &mut [u32]) -> Traced
+    ensures { λ r. ⌜ Promise gate (now (samples .entry)) (now (words .entry)) r (now (words .exit)) ⌝ }
+{
+    if samples.len() > MOST_SAMPLES {
+        return Traced::TooManySamples;
+    }
+    if !volts::good_gate(gate) {
+        return Traced::BadGate;
+    }
+    if words.len() <= samples.len() {
+        return Traced::TooFewWords;
+    }
+    if some_unusable(gate, samples) {
+        return Traced::UnusableSample;
+    }
+    if samples.len() == 0 {
+        return Traced::Intervals(0);
+    }
+    let count = write_intervals(gate, samples, words);
+    Traced::Intervals(count)
+}
