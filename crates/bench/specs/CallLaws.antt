@@ -1,3 +1,4 @@
+-- Laws.
 -- What each call does to the messages that wait in a row.
 use Prim.Native.Nat.{ℕ, zero, suc, _≤_}
 use mathlib.Core.Path.{_≡_, refl, sym, ap, ap₂, _∙_}
@@ -17,13 +18,13 @@ use Rattle.bench.specs.OrderLaws.{equal-or-behind, ahead-differs, same-r
 use Rattle.bench.specs.Contest.{emptied, afterFare, afterFares}
 use Rattle.bench.specs.Calls.{Call, load, withdraw, setClock, round, taken, loaded, clocked, done, after}
 use Rattle.bench.specs.Histories.{waiting}
-use Rattle.bench.specs.First.{first, none-ahead}
-use Rattle.bench.specs.RoundLaws.{against}
-use Rattle.bench.specs.RowLaws.{winnerOf, faresAgainst, row-fares}
+use Rattle.bench.specs.First.{none-ahead}
+use Rattle.bench.specs.RoundStated.{first, against, winnerOf, stationAt}
+use Rattle.bench.specs.RowLaws.{faresAgainst, row-fares}
 use Rattle.bench.specs.Difference.{lost-there, differs, same-through}
-use Rattle.bench.specs.Places.{stationAt, waiting-at, at-among}
+use Rattle.bench.specs.Places.{waiting-at, at-among}
 use Rattle.bench.specs.Taken.{load-taken, round-taken}
-use Rattle.bench.specs.Counting.{without}
+use Rattle.bench.specs.WaitStated.{without}
 
 -- ## One station changed
 

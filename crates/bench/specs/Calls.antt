@@ -1,3 +1,4 @@
+-- Definitions.
 -- The calls on a row: when each is turned away, and the row and the lent words afterwards. Document 01, "One can load ..,
 -- withdraw .., set a clock, and run a round; what isn't named stays", and "When a call is turned away".
 use Prim.Native.Nat.{ℕ}

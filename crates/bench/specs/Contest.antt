@@ -1,3 +1,4 @@
+-- Definitions.
 -- A round on a row of stations: what each brings to it, and the words, the verdicts and the line time that come of it.
 use Prim.Native.Nat.{ℕ, _+_, _-_}
 use mathlib.Core.Bool.{Bool, false, cond, not}

@@ -1,3 +1,4 @@
+-- Laws.
 -- A round of any entries whose widths lie in the sending windows: what stands on the line, how each place fares, and how long
 -- it takes. Stations with clocks are one case of it.
 use Prim.Native.Nat.{ℕ, suc, _+_, _*_, _≤_}
@@ -7,32 +8,15 @@ use mathlib.Core.Bool.{Bool, true, false, cond}
 use mathlib.Core.List.{List, [], _∷_, _++_, map}
 use native.Mathlib.Omega.{arith}
 use lib.ListN.{length, length-append}
-use Rattle.symbol.specs.Clocks.{Start}
-use Rattle.symbol.specs.Sending.{SendingWindow}
-use Rattle.symbol.specs.SendingLaws.{bitSymbol}
-use Rattle.frame.specs.Writing.{mostWords}
+use Rattle.symbol.specs.Sending.{SendingWindow, bitSymbol}
 use Rattle.bench.specs.Stations.{Bits}
 use Rattle.bench.specs.Order.{ahead}
 use Rattle.bench.specs.Round.{longest, mostBits, play}
-use Rattle.bench.specs.Contest.{Entry, absent, enters, sofsAsked, seatOf, sumOf, Round, contestOf}
-use Rattle.bench.specs.First.{first, firstOf}
-use Rattle.bench.specs.RoundLaws.{bitsIn, firstAt, Carried, none, next, Fair, FairAll, fareOf, plays-out}
+use Rattle.bench.specs.Contest.{Entry, absent, enters, sofsAsked, seatOf, sumOf, contestOf}
+use Rattle.bench.specs.RoundStated.{first, firstOf, bitsIn, Carried, none, next, FairAll, KeepAll, goesOut, Comes}
+use Rattle.bench.specs.RoundLaws.{plays-out}
 
 -- ## Entries
-
--- an entry keeps the rules where its SOF and its pulses lie in the sending windows, and it has at most 96 bits
-abbrev pub Keeps : Entry → Type 0
-Keeps absent = Unit {0}
-Keeps (enters sof pulses) = Start sof × Fair false pulses × (length (bitsIn pulses) ≤ mostBits)
-
--- each of the entries keeps them
-abbrev pub KeepAll : List Entry → Type 0
-KeepAll [] = Unit {0}
-KeepAll (e ∷ entries) = Keeps e × KeepAll entries
-
--- the bits that go out: the first of the entries' bits
-abbrev pub goesOut : List Entry → Bits
-goesOut entries = firstAt (map seatOf entries)
 
 -- entries that keep the rules ask for nothing outside the windows
 pub all-fair : (entries : List Entry) → KeepAll entries → FairAll false (map seatOf entries)
@@ -86,20 +70,6 @@ sum-append [] b = omega arith
 sum-append (w ∷ a) b = let k = sum-append a b in omega arith
 
 -- ## The round
-
--- What a round comes to in which the bits w go out.
-pub record Comes (entries : List Entry) (r : Round) : Type 0 where
-  pub sof : ℕ
-  pub widths : List ℕ
-  -- opening, SOF, a width for each bit, closing
-  pub words : r .words ≡ 300 ∷ sof ∷ (widths ++ (300 ∷ []))
-  pub sof-window : goesOut entries ≢ [] → Start sof
-  pub line : Carried false (goesOut entries) widths
-  pub few : length (r .words) ≤ mostWords
-  pub fares : r .fares ≡ map (fareOf 1 (goesOut entries)) (map seatOf entries)
-  -- line time is the sum of the words less the closing 300
-  pub time : r .lineTime + 300 ≡ sumOf (r .words)
-  pub bound : r .lineTime ≤ 14438
 
 -- Every round of entries that keep the rules comes to this.
 pub comes : (entries : List Entry) → KeepAll entries → Comes entries (contestOf entries)

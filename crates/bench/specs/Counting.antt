@@ -1,3 +1,4 @@
+-- Laws.
 -- How many different messages are ahead of one, and how that number changes when a message is taken out of the row or put in.
 use Prim.Native.Nat.{ℕ, zero, suc, _+_, _≤_}
 use mathlib.Core.Path.{_≡_, refl, sym, _∙_}
@@ -11,14 +12,11 @@ use Rattle.bench.specs.Stations.{Bits}
 use Rattle.bench.specs.Order.{ahead, sameBits}
 use Rattle.bench.specs.OrderLaws.{irreflexive, equal-or-behind, ahead-some, same-true, same-refl, same-no, different-same}
 use Rattle.bench.specs.Histories.{among, differentAhead}
-use Rattle.bench.specs.First.{first, none-ahead}
+use Rattle.bench.specs.First.{none-ahead}
+use Rattle.bench.specs.RoundStated.{first}
+use Rattle.bench.specs.WaitStated.{without}
 
 -- ## Taking a message out
-
--- the places that hold b become empty
-unfoldable pub without : Bits → List Bits → List Bits
-without b [] = []
-without b (x ∷ xs) = cond (sameBits x b) [] x ∷ without b xs
 
 -- Another message stays.
 pub without-other : (y b : Bits) (xs : List Bits) → y ≢ [] → y ≢ b → among y (without b xs) ≡ among y xs

@@ -1,3 +1,4 @@
+-- Laws.
 -- Where a loser loses: at the first bit where the winner's bits differ from its own, or one past its last bit.
 use Prim.Native.Nat.{ℕ, suc, _+_}
 use mathlib.Core.Path.{_≡_, refl, ap, _∙_}
@@ -10,14 +11,7 @@ use Rattle.laws.specs.Tests.{never}
 use Rattle.bench.specs.declared.Fared.the-variants.{Through, Lost}
 use Rattle.bench.specs.Stations.{Bits}
 use Rattle.bench.specs.Order.{ahead}
-use Rattle.bench.specs.RoundLaws.{against}
-
--- Bit k, counted from 1, is the first at which the bits m part from the winner's bits w.
-pub data FirstDifference (w m : Bits) : ℕ → Type 0 where
-  -- both have a bit there, and not the same
-  otherBit : (same ws ms : Bits) (b c : Bool) → b ≢ c → w ≡ same ++ (b ∷ ws) → m ≡ same ++ (c ∷ ms) → FirstDifference w m (suc (length same))
-  -- it is one past the last bit of m, and w goes on
-  pastLast : (b : Bool) (ws : Bits) → w ≡ m ++ (b ∷ ws) → FirstDifference w m (suc (length m))
+use Rattle.bench.specs.RoundStated.{against, FirstDifference, otherBit, pastLast}
 
 -- ## The bit at which it loses
 

@@ -1,3 +1,4 @@
+-- Laws.
 -- How each place of a sound row fares in a round: as what waits there stands to the first of the messages that wait.
 use Prim.Native.Nat.{ℕ}
 use mathlib.Core.Path.{_≡_, refl, ap, _∙_}
@@ -10,18 +11,13 @@ use Rattle.bench.specs.declared.Fared.{Fared}
 use Rattle.bench.specs.declared.Fared.the-variants.{Idle, Through, Lost}
 use Rattle.bench.specs.Stations.{empty, waitingAt, blank}
 use Rattle.bench.specs.Order.{ahead}
-use Rattle.bench.specs.Contest.{roundOf}
 use Rattle.bench.specs.Calls.{allSound, allEmpty}
 use Rattle.bench.specs.Histories.{waiting, among}
 use Rattle.bench.specs.First.{first-some, first-or-behind}
-use Rattle.bench.specs.RoundLaws.{against}
-use Rattle.bench.specs.RowLaws.{winnerOf, faresAgainst, row-fares}
-use Rattle.bench.specs.Places.{stationAt, waiting-at, holder-some, at-among, somebody}
-use Rattle.bench.specs.Difference.{FirstDifference, lost-there, differs, same-through}
-
--- how a place fared in the round on a row; idle past the row
-abbrev pub fareAt : List Station → ℕ → Fared
-fareAt row i = getD (roundOf row .fares) i Idle
+use Rattle.bench.specs.RoundStated.{against, winnerOf, stationAt, FirstDifference, fareAt}
+use Rattle.bench.specs.RowLaws.{faresAgainst, row-fares}
+use Rattle.bench.specs.Places.{waiting-at, holder-some, at-among, somebody}
+use Rattle.bench.specs.Difference.{lost-there, differs, same-through}
 
 module _ (row : List Station) (sound : allSound row ≡ true) (some : allEmpty row ≡ false) where
   fare-is : (i : ℕ) → fareAt row i ≡ faresAgainst (winnerOf row) (stationAt row i)

@@ -1,3 +1,4 @@
+-- Laws.
 -- The first of messages by the order: it is one of them, and none of them is ahead of it.
 use mathlib.Core.Path.{_≡_, refl}
 use mathlib.Core.Logic.{_⊎_, _≢_}
@@ -8,15 +9,7 @@ use Rattle.bench.specs.Stations.{Bits}
 use Rattle.bench.specs.Order.{ahead, sameBits}
 use Rattle.bench.specs.OrderLaws.{irreflexive, asymmetric, equal-or-behind, not-ahead-transitive, same-true, same-refl}
 use Rattle.bench.specs.Histories.{among}
-
--- the one that is ahead, of two
-unfoldable pub firstOf : Bits → Bits → Bits
-firstOf x y = cond (ahead x y) x y
-
--- the first of messages; no bits where there are none, or where no place has any
-unfoldable pub first : List Bits → Bits
-first [] = []
-first (x ∷ xs) = firstOf x (first xs)
+use Rattle.bench.specs.RoundStated.{firstOf, first}
 
 -- ## Of two
 

@@ -1,3 +1,4 @@
+-- Definitions.
 -- Histories of calls on a row as their callers see them: calls with their answers, each of which keeps its promise, and what
 -- demand 3 counts in them, by the answers alone. Of "a row changed only by these calls", rounds are counted "from the
 -- loading".

@@ -1,3 +1,4 @@
+-- Laws.
 -- In a history whose calls keep their promises, the answers tell what was taken, and the rows are those of the definitions.
 use Prim.Native.Nat.{ℕ}
 use mathlib.Core.Path.{_≡_, ap, _∙_}

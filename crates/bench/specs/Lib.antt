@@ -1,3 +1,4 @@
+-- Definitions.
 pub mod Stations
 pub mod Order
 pub mod Round
@@ -5,6 +6,10 @@ pub mod Contest
 pub mod Calls
 pub mod Promises
 pub mod Histories
+pub mod Worked
+pub mod RoundStated
+pub mod WaitStated
+-- Laws.
 pub mod OrderLaws
 pub mod LineLaws
 pub mod First
@@ -29,4 +34,3 @@ pub mod Waiting
 pub mod WaitingEnds
 pub mod RunsOut
 pub mod RoundShows
-pub mod Worked

@@ -1,3 +1,4 @@
+-- Laws.
 -- What the line does at one bit: the width on it is one that is asked for, nobody asks for less (where it is passive) or for
 -- more (where it is active), and the bit on it is a 0 if somebody sends a 0.
 use Prim.Native.Nat.{ℕ, _≤_, _<_, min, max}
@@ -8,16 +9,12 @@ use mathlib.Core.List.{List, [], _∷_}
 use native.Mathlib.Omega.{arith}
 use Rattle.laws.specs.Tests.{upTo}
 use Rattle.symbol.specs.ClassLaws.{class-only}
-use Rattle.symbol.specs.Sending.{SendingWindow}
-use Rattle.symbol.specs.SendingLaws.{sending-inside, bitSymbol}
+use Rattle.symbol.specs.Sending.{SendingWindow, bitSymbol}
+use Rattle.symbol.specs.SendingLaws.{sending-inside}
 use Rattle.bench.specs.Round.{Pulse, widthsOf, shortest, longest, lasts, onLine}
+use Rattle.bench.specs.RoundStated.{OneOf, InWindows, onlyOnes}
 
 -- ## The shortest and the longest
-
--- the width w is one of those asked for
-abbrev pub OneOf : ℕ → List ℕ → Type 0
-OneOf w [] = ⊥
-OneOf w (v ∷ ws) = (w ≡ v) ⊎ OneOf w ws
 
 -- The shortest is asked for by somebody, where anybody asks.
 pub shortest-asked : (w : ℕ) (ws : List ℕ) → OneOf (shortest (w ∷ ws)) (w ∷ ws)
@@ -62,16 +59,6 @@ pub on-line : (active one : Bool) (w : ℕ) → SendingWindow active (bitSymbol 
 unfolding onLine
 on-line active true w h = rw (class-only active (bitSymbol true) w (sending-inside active (bitSymbol true) w h))
 on-line active false w h = rw (class-only active (bitSymbol false) w (sending-inside active (bitSymbol false) w h))
-
--- each pulse asks for a width in the sending window of its bit
-abbrev pub InWindows : Bool → List Pulse → Type 0
-InWindows active [] = Unit {0}
-InWindows active (p ∷ ps) = SendingWindow active (bitSymbol (p .bit)) (p .width) × InWindows active ps
-
--- nobody sends a 0
-abbrev pub onlyOnes : List Pulse → Bool
-onlyOnes [] = true
-onlyOnes (p ∷ ps) = p .bit && onlyOnes ps
 
 -- The width on the line lies in the sending window of 0 if somebody sends a 0, and of 1 otherwise.
 pub lasts-in : (active : Bool) (p : Pulse) (ps : List Pulse) → InWindows active (p ∷ ps)

@@ -1,37 +1,21 @@
+-- Laws.
 -- What a round that is not turned away puts on the line: the winner's bits, in the sending windows, for every choice of good
 -- clocks; at most 101 words, and at most 14,438 µs of line time.
-use Prim.Native.Nat.{ℕ, _+_, _≤_}
+use Prim.Native.Nat.{ℕ}
 use mathlib.Core.Path.{_≡_, sym, ap, _∙_}
 use mathlib.Core.Bool.{true, false}
-use mathlib.Core.List.{List, [], _∷_, _++_}
+use mathlib.Core.List.{List, [], _∷_}
 use native.Mathlib.Omega.{arith}
 use lib.ListN.{length, take, drop, length-append, length-drop}
 use lib.Seq.{take-append-seam}
-use Rattle.symbol.specs.Clocks.{Start}
-use Rattle.frame.specs.Writing.{mostWords}
 use Rattle.bench.specs.declared.Station.{Station}
-use Rattle.bench.specs.Contest.{sumOf, roundOf}
+use Rattle.bench.specs.Contest.{roundOf}
 use Rattle.bench.specs.Calls.{round, taken, lentAfter}
-use Rattle.bench.specs.RoundLaws.{Carried}
+use Rattle.bench.specs.RoundStated.{Carried, winnerOf, OnTheLine}
 use Rattle.bench.specs.ContestLaws.{carried-length}
-use Rattle.bench.specs.RowLaws.{winnerOf, goes-first, row-comes}
+use Rattle.bench.specs.RowLaws.{goes-first, row-comes}
 use Rattle.bench.specs.Taken.{round-taken}
 use Rattle.bench.specs.Fates.{winner-some}
-
--- What stands on the line in the round on a row.
-pub record OnTheLine (row : List Station) : Type 0 where
-  pub sof : ℕ
-  pub widths : List ℕ
-  -- the opening, the SOF, a width for each bit, the closing end
-  pub words : roundOf row .words ≡ 300 ∷ sof ∷ (widths ++ (300 ∷ []))
-  pub sof-window : Start sof
-  pub line : Carried false (winnerOf row) widths
-  -- "A frame takes at most 101 words"
-  pub number : length (roundOf row .words) ≡ 3 + length (winnerOf row)
-  pub few : length (roundOf row .words) ≤ mostWords
-  -- "all intervals but the closing 300", and "The bound: 300 + 218 + 96 × 145 = 14,438."
-  pub time : roundOf row .lineTime + 300 ≡ sumOf (roundOf row .words)
-  pub bound : roundOf row .lineTime ≤ 14438
 
 module _ (lent : List ℕ) (row : List Station) (t : taken (round lent) row ≡ true) where
   -- THE LINE of a round.

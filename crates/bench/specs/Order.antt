@@ -1,3 +1,4 @@
+-- Definitions.
 -- Which of two messages is ahead: document 01, "message X is ahead of Y when, at the first place where their bits with
 -- checks differ, X has 0 and Y has 1, or X still has a bit and Y has none."
 use mathlib.Core.Path.{_≡_}

@@ -1,3 +1,4 @@
+-- Laws.
 -- `ahead` is document 01's sentence, and a strict order that is total on different messages.
 use mathlib.Core.Path.{_≡_, refl, ap}
 use mathlib.Core.Logic.{_⊎_, inl, inr, _≢_, _↔_}

@@ -1,3 +1,4 @@
+-- Laws.
 -- The places of a row: what waits at each, and that a message of the row waits at one of them.
 use Prim.Native.Nat.{ℕ, zero, suc}
 use mathlib.Core.Path.{_≡_, refl, sym, _∙_}
@@ -13,10 +14,7 @@ use Rattle.bench.specs.OrderLaws.{same-true, same-refl}
 use Rattle.bench.specs.Calls.{allEmpty}
 use Rattle.bench.specs.Histories.{waiting, among}
 use Rattle.bench.specs.RowLaws.{sent-some}
-
--- the station at a place
-abbrev pub stationAt : List Station → ℕ → Station
-stationAt row i = getD row i blank
+use Rattle.bench.specs.RoundStated.{stationAt}
 
 -- What waits at a place of the row is what waits at its station.
 pub waiting-at : (row : List Station) (i : ℕ) → getD (waiting row) i [] ≡ waitingAt (stationAt row i)

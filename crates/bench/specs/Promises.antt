@@ -1,3 +1,4 @@
+-- Definitions.
 -- What each call on a row promises: its answer, and everything lent to it afterwards. The rows are the stations at entry and
 -- at exit.
 use Prim.Native.Nat.{ℕ}

@@ -1,3 +1,4 @@
+-- Laws.
 -- Demand 3 "is about frames as demand 2's reader sees them": the words of a round, read from position 0, are a good frame with
 -- exactly the winner's bytes and check byte and no response, for every choice of good clocks.
 use Prim.Native.Nat.{ℕ, _+_, _-_, _≤_}
@@ -7,10 +8,10 @@ use mathlib.Core.List.{List, [], _∷_, _++_, append-nil}
 use native.Mathlib.Omega.{arith}
 use lib.ListN.{length, take, drop}
 use lib.Seq.{take-append-seam}
-use Rattle.symbol.specs.SendingLaws.{sending-inside, bitSymbol}
+use Rattle.symbol.specs.SendingLaws.{sending-inside}
+use Rattle.symbol.specs.Sending.{bitSymbol}
 use Rattle.symbol.specs.declared.Symbol.the-variants.{Sof}
-use Rattle.checkbyte.specs.Register.{checkOf, withCheck}
-use Rattle.checkbyte.specs.Differ.{Bytes}
+use Rattle.checkbyte.specs.Register.{checkOf, withCheck, Bytes}
 use Rattle.frame.specs.declared.Response.the-variants.{Without}
 use Rattle.frame.specs.Bits.{bytes}
 use Rattle.frame.specs.ByteLaws.{bytes-back, with-bytes}
@@ -25,9 +26,8 @@ use Rattle.bench.specs.declared.Station.{Station}
 use Rattle.bench.specs.Stations.{mostStored, Bits, bitsSent}
 use Rattle.bench.specs.Contest.{roundOf}
 use Rattle.bench.specs.Calls.{round, taken, lentAfter}
-use Rattle.bench.specs.RoundLaws.{Carried, none, next}
-use Rattle.bench.specs.RowLaws.{winnerOf}
-use Rattle.bench.specs.LineTime.{OnTheLine, on-the-line}
+use Rattle.bench.specs.RoundStated.{Carried, none, next, winnerOf, OnTheLine}
+use Rattle.bench.specs.LineTime.{on-the-line}
 
 -- ## Bits and messages
 

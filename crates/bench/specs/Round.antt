@@ -1,3 +1,4 @@
+-- Definitions.
 -- A round, bit by bit, as document 01 tells it in "Writing and the bench": who asks for what, what the line does, who stops.
 -- Each pulse has a width of its own, so that nothing here speaks of clocks.
 use Prim.Native.Nat.{ℕ, zero, suc, min, max}

@@ -1,3 +1,4 @@
+-- Laws.
 -- What the bits of a round come to, whatever widths are asked for inside the sending windows: the first message's bits stand
 -- on the line, its holders remain, and everyone else is out at the first difference from it.
 use Prim.Native.Nat.{ℕ, zero, suc, _≤_}
@@ -6,51 +7,16 @@ use mathlib.Core.Bool.{Bool, true, false, cond, not, Bool·beq}
 use mathlib.Core.List.{List, [], _∷_, map}
 use native.Mathlib.Omega.{arith}
 use lib.ListN.{length}
-use Rattle.symbol.specs.Sending.{SendingWindow}
-use Rattle.symbol.specs.SendingLaws.{bitSymbol}
-use Rattle.bench.specs.declared.Fared.{Fared}
-use Rattle.bench.specs.declared.Fared.the-variants.{Through, Lost}
+use Rattle.symbol.specs.Sending.{SendingWindow, bitSymbol}
+use Rattle.bench.specs.declared.Fared.the-variants.{Lost}
 use Rattle.bench.specs.Stations.{Bits}
 use Rattle.bench.specs.Order.{ahead}
-use Rattle.bench.specs.Round.{Pulse, Seat, out, on, asked, widthsOf, lasts, onLine, heard, Course, over, bitThen, nobodyAsks, play, faredAt}
-use Rattle.bench.specs.LineLaws.{InWindows, onlyOnes, lasts-in, on-line}
-use Rattle.bench.specs.First.{firstOf, first, first-none, first-same-bit}
+use Rattle.bench.specs.Round.{Pulse, Seat, out, on, asked, widthsOf, lasts, onLine, heard, over, bitThen, nobodyAsks, play, faredAt}
+use Rattle.bench.specs.LineLaws.{lasts-in, on-line}
+use Rattle.bench.specs.RoundStated.{InWindows, onlyOnes, firstOf, first, bitsIn, firstAt, none, next, FairAt, FairAll, against, fareOf, Runs}
+use Rattle.bench.specs.First.{first-none, first-same-bit}
 
 -- ## The bits of places
-
--- the bits alone
-abbrev pub bitsIn : List Pulse → Bits
-bitsIn ps = map (λ (p : Pulse). p .bit) ps
-
--- what a place still has to send
-abbrev pub bitsAt : Seat → Bits
-bitsAt (out f) = []
-bitsAt (on ps) = bitsIn ps
-
--- the first of what the places have to send
-abbrev pub firstAt : List Seat → Bits
-firstAt seats = first (map bitsAt seats)
-
--- Widths that carry bits, from a level on: each lies in the sending window of its bit at its level.
-pub data Carried : Bool → Bits → List ℕ → Type 0 where
-  none : {active : Bool} → Carried active [] []
-  next : {active b : Bool} {w : ℕ} {bits : Bits} {ws : List ℕ} → SendingWindow active (bitSymbol b) w → Carried (not active) bits ws
-      → Carried active (b ∷ bits) (w ∷ ws)
-
--- what a place asks for, now and later, lies in the sending windows
-abbrev pub Fair : Bool → List Pulse → Type 0
-Fair active [] = Unit {0}
-Fair active (p ∷ ps) = SendingWindow active (bitSymbol (p .bit)) (p .width) × Fair (not active) ps
-
--- the same of a place ..
-abbrev pub FairAt : Bool → Seat → Type 0
-FairAt active (out f) = Unit {0}
-FairAt active (on ps) = Fair active ps
-
--- .. and of all places
-abbrev pub FairAll : Bool → List Seat → Type 0
-FairAll active [] = Unit {0}
-FairAll active (s ∷ seats) = FairAt active s × FairAll active seats
 
 asked-in : (active : Bool) (seats : List Seat) → FairAll active seats → InWindows active (asked seats)
 unfolding asked
@@ -112,17 +78,6 @@ head k (on (p ∷ ps) ∷ seats) = go (p .bit) (p .width) (head k seats)
 
 -- ## All bits
 
--- how a message m fares against the first message w, from bit k on: it stops where the two differ
-unfoldable pub against : ℕ → Bits → Bits → Fared
-against k [] m = Through
-against k (b ∷ w) [] = Lost k
-against k (b ∷ w) (c ∷ m) = cond (Bool·beq c b) (against (suc k) w m) (Lost k)
-
--- how a place fares against the first message
-abbrev pub fareOf : ℕ → Bits → Seat → Fared
-fareOf k w (out f) = f
-fareOf k w (on ps) = against k w (bitsIn ps)
-
 heard-fares : (k : ℕ) (b : Bool) (w : Bits) (seats : List Seat) → map (fareOf (suc k) w) (map (heard k b) seats) ≡ map (fareOf k (b ∷ w)) seats
 unfolding against
 heard-fares k b w [] = refl
@@ -140,15 +95,6 @@ unfolding against
 over-fares k [] = refl
 over-fares k (out f ∷ seats) = rw (over-fares k seats)
 over-fares k (on ps ∷ seats) = rw (over-fares k seats)
-
--- What the bits of a round come to, from bit k on.
-pub record Runs (k : ℕ) (active : Bool) (seats : List Seat) (c : Course) : Type 0 where
-  -- the line carries the first message's bits
-  pub line : Carried active (firstAt seats) (c .widths)
-  -- each place fares as its bits do against that message
-  pub fares : map faredAt (c .seats) ≡ map (fareOf k (firstAt seats)) seats
-  -- "every remaining station has sent its check byte"
-  pub finished : asked (c .seats) ≡ []
 
 ends : (k : ℕ) (active : Bool) (seats : List Seat) → asked seats ≡ [] → firstAt seats ≡ [] → Runs k active seats (over seats)
 ends k active seats a e = record { line = rw e none; fares = rw e (over-fares k seats); finished = a }

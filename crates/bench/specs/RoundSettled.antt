@@ -1,3 +1,4 @@
+-- Laws.
 -- A round is settled: its promise leaves one answer, one row and one state of the lent words, and each refusal comes exactly
 -- when document 01 says so, with the row and the words as they were.
 use Prim.Native.Nat.{ℕ, _<_}
@@ -17,6 +18,7 @@ use Rattle.bench.specs.Contest.{roundOf}
 use Rattle.bench.specs.Calls.{round, rulesFor, numberOf, taken, lentAfter}
 use Rattle.bench.specs.Promises.{toldNumber, RoundSaid, said, played, turnedAway, roundSays, RoundPromise}
 use Rattle.bench.specs.RowSettled.{turned-away}
+use Rattle.bench.specs.RoundStated.{AsItWas}
 
 -- ## One answer, one row, one state of the words
 
@@ -64,12 +66,6 @@ says-number row lent = go (eqb (numberOf (round lent) row) 0) refl
         → cond t (played (roundOf row)) (turnedAway (numberOf (round lent) row)) .number ≡ numberOf (round lent) row
     go true e = sym (eqb-true (numberOf (round lent) row) 0 e)
     go false e = refl
-
--- A round that is turned away says so and nothing else, and leaves the row and the words as they were.
-pub record AsItWas (n : ℕ) (entry exit : List Station) (lentEntry lentExit : List ℕ) (a : RoundAnswer) : Type 0 where
-  pub row : exit ≡ entry
-  pub words : lentExit ≡ lentEntry
-  pub answer : said a ≡ turnedAway n
 
 module _ {entry exit : List Station} {lentEntry lentExit : List ℕ} {a : RoundAnswer} (p : RoundPromise entry exit lentEntry lentExit a) where
   its-number : toldNumber (a .told) ≡ numberOf (round lentEntry) entry

@@ -1,3 +1,4 @@
+-- Laws.
 -- A row of sound stations keeps the rules of a round, and what comes of the round is said in the stations' own bits.
 use Prim.Native.Nat.{ℕ, _≤_}
 use mathlib.Core.Path.{_≡_, refl, sym, ap, ap₂, _∙_}
@@ -10,9 +11,9 @@ use lib.ListN.{length, length-take}
 use borrow.Author.Tests.{leb-true}
 use Rattle.laws.specs.Tests.{both}
 use Rattle.symbol.specs.declared.Clock.{Clock}
-use Rattle.symbol.specs.Clocks.{goodOf}
-use Rattle.symbol.specs.Sending.{SendingWindow, bitWidth}
-use Rattle.symbol.specs.SendingLaws.{Good, good, bitSymbol}
+use Rattle.symbol.specs.Clocks.{goodOf, Good}
+use Rattle.symbol.specs.Sending.{SendingWindow, bitWidth, bitSymbol}
+use Rattle.symbol.specs.SendingLaws.{good}
 use Rattle.checkbyte.specs.Register.{withCheck}
 use Rattle.frame.specs.Bits.{bitsOf}
 use Rattle.frame.specs.ByteLaws.{bits-length}
@@ -25,9 +26,9 @@ use Rattle.bench.specs.Round.{mostBits, asked, play}
 use Rattle.bench.specs.Contest.{absent, pulsesOf, holder, entryOf, seatOf, roundOf}
 use Rattle.bench.specs.Calls.{allSound}
 use Rattle.bench.specs.Histories.{waiting}
-use Rattle.bench.specs.First.{first}
-use Rattle.bench.specs.RoundLaws.{bitsIn, bitsAt, Fair, against, fareOf, plays-out}
-use Rattle.bench.specs.ContestLaws.{Keeps, KeepAll, goesOut, all-fair, goes-short, Comes, comes}
+use Rattle.bench.specs.RoundStated.{first, bitsIn, bitsAt, Fair, against, fareOf, Keeps, KeepAll, goesOut, Comes, winnerOf}
+use Rattle.bench.specs.RoundLaws.{plays-out}
+use Rattle.bench.specs.ContestLaws.{all-fair, goes-short, comes}
 
 -- ## A message's bits
 
@@ -95,10 +96,6 @@ waits-all : (row : List Station) → map bitsAt (map seatOf (map entryOf row)) �
 unfolding waiting
 waits-all [] = refl
 waits-all (s ∷ row) = ap₂ (λ (x : Bits) (xs : List Bits). x ∷ xs) (waits-one s) (waits-all row)
-
--- the first of the messages that wait in the row
-abbrev pub winnerOf : List Station → Bits
-winnerOf row = first (waiting row)
 
 -- What goes out is the first of the messages that wait.
 pub goes-first : (row : List Station) → goesOut (map entryOf row) ≡ winnerOf row

@@ -1,3 +1,4 @@
+-- Laws.
 -- Loading, withdrawing and setting a clock are settled: each promise leaves one answer and one row, and each refusal comes
 -- exactly when document 01 says so, with the row as it was.
 use Prim.Native.Nat.{ℕ, _<_}

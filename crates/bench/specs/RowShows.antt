@@ -1,8 +1,8 @@
+-- Laws.
 -- What loading, withdrawing and setting a clock show their caller when they are done: one station changes as document 01 says,
 -- and no other. And what no call changes: the number of stations, and that the row is sound.
 use Prim.Native.Nat.{ℕ, zero, suc, _<_}
 use mathlib.Core.Path.{_≡_, refl, sym, ap, _∙_}
-use mathlib.Core.Logic.{_≢_}
 use mathlib.Core.Bool.{Bool, true, false, cond}
 use mathlib.Core.List.{List, [], _∷_}
 use lib.Dec.{leb}
@@ -20,17 +20,10 @@ use Rattle.bench.specs.Stations.{mostStored, sound, blank}
 use Rattle.bench.specs.Contest.{roundOf, emptied, afterFare, afterFares}
 use Rattle.bench.specs.Calls.{Call, load, withdraw, setClock, round, allSound, numberOf, taken, loaded, clocked, done, after}
 use Rattle.bench.specs.Promises.{LoadPromise, WithdrawPromise, ClockPromise}
-use Rattle.bench.specs.Places.{stationAt}
+use Rattle.bench.specs.RoundStated.{stationAt, OnlyAt}
 use Rattle.bench.specs.Taken.{load-taken, withdraw-taken, clock-taken}
 
 -- ## One station changes
-
--- The station at place i has changed as told, and no other.
-pub record OnlyAt (i : ℕ) (change : Station → Station) (entry exit : List Station) : Type 0 where
-  pub there : i < length entry
-  pub changed : stationAt exit i ≡ change (stationAt entry i)
-  pub others : (j : ℕ) → j ≢ i → stationAt exit j ≡ stationAt entry j
-  pub size : length exit ≡ length entry
 
 only-at : (i : ℕ) (change : Station → Station) (entry exit : List Station) → i < length entry → exit ≡ set entry i (change (stationAt entry i))
     → OnlyAt i change entry exit

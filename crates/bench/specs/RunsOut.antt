@@ -1,3 +1,4 @@
+-- Laws.
 -- Demand 3 with no count left to suppose: load a message, then only run rounds with 101 words lent, and it goes out in round
 -- A + 1.
 use Prim.Native.Nat.{ℕ, zero, suc, _+_, _≤_}
@@ -9,7 +10,7 @@ use native.Mathlib.Omega.{arith}
 use lib.Dec.{eqb}
 use lib.ListN.{length, getD}
 use Rattle.laws.specs.Tests.{never}
-use Rattle.checkbyte.specs.Differ.{Bytes}
+use Rattle.checkbyte.specs.Register.{Bytes}
 use Rattle.frame.specs.Writing.{mostWords}
 use Rattle.bench.specs.declared.Station.{Station}
 use Rattle.bench.specs.declared.Called.{Called}
@@ -19,13 +20,15 @@ use Rattle.bench.specs.Calls.{Call, load, round, allEmpty, taken, after}
 use Rattle.bench.specs.Promises.{toldNumber, LoadPromise}
 use Rattle.bench.specs.Histories.{waiting, aheadIn, Event, loads, withdraws, setsClock, plays, Happens, nothing, then, roundsSeen, NoTrafficSeen}
 use Rattle.bench.specs.HistoryLaws.{accepted-taken}
-use Rattle.bench.specs.RowLaws.{winnerOf, sent-some}
-use Rattle.bench.specs.Places.{stationAt, waiting-at, some-holder}
-use Rattle.bench.specs.Taken.{RowPassed, taken-when, load-taken}
+use Rattle.bench.specs.RowLaws.{sent-some}
+use Rattle.bench.specs.RoundStated.{winnerOf, stationAt, RowPassed}
+use Rattle.bench.specs.Places.{waiting-at, some-holder}
+use Rattle.bench.specs.Taken.{taken-when, load-taken}
 use Rattle.bench.specs.RowShows.{same-length, stays-sound}
 use Rattle.bench.specs.Counting.{without-at}
 use Rattle.bench.specs.CallLaws.{round-waiting, away-same}
-use Rattle.bench.specs.WaitingEnds.{GoesOutInTime, Outcome, goesOut, isWithdrawn, stillWaits, outcome, loading-taken, kept, quiet-kept, quiet-loads, quiet-before}
+use Rattle.bench.specs.WaitingEnds.{Outcome, goesOut, isWithdrawn, stillWaits, outcome, loading-taken, kept, quiet-kept, quiet-loads, quiet-before}
+use Rattle.bench.specs.WaitStated.{GoesOutInTime, OnlyRounds}
 
 -- ## A round that has something to do is taken
 
@@ -66,18 +69,6 @@ waited lent row s n e = go (taken (round lent) row) refl
     go : (t : Bool) → taken (round lent) row ≡ t → ⊥
     go true t = n (rw (round-waiting lent row t) (without-at s (winnerOf row) (waiting row) ∙ rw e (either (sameBits [] (winnerOf row)))))
     go false t = n (rw (away-same (round lent) row t) e)
-
--- a round with 101 words lent
-abbrev pub RoundLent : Event → Type 0
-RoundLent (loads i m a) = ⊥
-RoundLent (withdraws i a) = ⊥
-RoundLent (setsClock i c a) = ⊥
-RoundLent (plays lent lentExit a) = mostWords ≤ length lent
-
--- rounds and nothing else
-abbrev pub OnlyRounds : List Event → Type 0
-OnlyRounds [] = Unit {0}
-OnlyRounds (e ∷ events) = RoundLent e × OnlyRounds events
 
 only-quiet : (events : List Event) → OnlyRounds events → NoTrafficSeen events
 only-quiet [] o = tt

@@ -1,3 +1,4 @@
+-- Definitions.
 -- A station of the row: document 01, "Each has a clock and 0 to 11 stored message bytes, 0 meaning empty."
 use Prim.Native.Nat.{ℕ}
 use mathlib.Core.Bool.{Bool, cond, _&&_}

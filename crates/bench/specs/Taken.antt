@@ -1,3 +1,4 @@
+-- Laws.
 -- A call that is not turned away has passed every rule of document 01, and one that has passed them all is not turned away.
 use Prim.Native.Nat.{ℕ, zero, suc, _+_, _≤_, _<_}
 use mathlib.Core.Path.{_≡_, refl, sym, ap}
@@ -10,8 +11,8 @@ use lib.ListN.{length, getD}
 use borrow.Author.Tests.{eqb-true, eq-eqb, eqb-false, ltb-true, ltb-false, lt-ltb, le-ltb}
 use Rattle.laws.specs.Tests.{not-below, not-at-most}
 use Rattle.laws.specs.Meant.{not-set, not-unset}
-use Rattle.laws.specs.Rules.{firstRule, NoneHolds}
-use Rattle.laws.specs.RuleLaws.{without, apart, none-is}
+use Rattle.laws.specs.Rules.{firstRule, NoneHolds, without, apart}
+use Rattle.laws.specs.RuleLaws.{none-is}
 use Rattle.symbol.specs.declared.Clock.{Clock}
 use Rattle.symbol.specs.Clocks.{goodOf}
 use Rattle.checkbyte.specs.Register.{withCheck}
@@ -23,6 +24,7 @@ use Rattle.frame.specs.Writing as writer
 use Rattle.bench.specs.declared.Station.{Station}
 use Rattle.bench.specs.Stations.{mostStations, mostStored, empty, blank}
 use Rattle.bench.specs.Calls.{Call, load, withdraw, setClock, round, rowSize, allSound, unsoundStation, badMessage, allEmpty, rulesOn, rulesFor, numberOf, taken}
+use Rattle.bench.specs.RoundStated.{RowPassed}
 
 -- No rule has the number 0, which says that none holds ..
 pub no-zero : (c : Call) (count : ℕ) (row : List Station) → without 0 (rulesOn c count row) ≡ true
@@ -54,12 +56,6 @@ positive (suc n) e = omega arith
 pub within : (n m : ℕ) → ¬ ((n ≡ 0) ⊎ (m < n)) → (1 ≤ n) × (n ≤ m)
 within zero m h = absurd (h (inl refl))
 within (suc n) m h = (omega arith, not-below m (suc n) (λ l. h (inr l)))
-
--- what every call that is taken has passed: 38 and 39
-pub record RowPassed (row : List Station) : Type 0 where
-  pub some : 1 ≤ length row
-  pub few : length row ≤ mostStations
-  pub sound : allSound row ≡ true
 
 row-passed : (row : List Station) → ¬ (rowSize (length row) .Holds) → ¬ (unsoundStation (allSound row) .Holds) → RowPassed row
 row-passed row a b =

@@ -1,3 +1,4 @@
+-- Laws.
 -- Whoever gets through is read: for each place that a round lets through, the reader finds that place's own message.
 use Prim.Native.Nat.{ℕ, zero, suc, _+_, _≤_}
 use mathlib.Core.Path.{_≡_, sym, _∙_}
@@ -9,7 +10,7 @@ use lib.ListN.{length, take, length-take}
 use borrow.Author.Tests.{leb-true}
 use Rattle.laws.specs.Tests.{both}
 use Rattle.symbol.specs.Clocks.{goodOf}
-use Rattle.checkbyte.specs.Differ.{Bytes}
+use Rattle.checkbyte.specs.Register.{Bytes}
 use Rattle.frame.specs.declared.Response.the-variants.{Without}
 use Rattle.frame.specs.Faults.{mostBytes}
 use Rattle.frame.specs.Reading.{good, reading}
@@ -18,18 +19,13 @@ use Rattle.bench.specs.declared.Station.{Station}
 use Rattle.bench.specs.declared.Fared.the-variants.{Through}
 use Rattle.bench.specs.Stations.{mostStored, bitsSent, stored, empty, waitingAt, sound}
 use Rattle.bench.specs.Calls.{round, taken, lentAfter}
-use Rattle.bench.specs.RowLaws.{winnerOf}
-use Rattle.bench.specs.Places.{stationAt, holder-waits, some-holder}
+use Rattle.bench.specs.RoundStated.{winnerOf, stationAt, fareAt, InMemory}
+use Rattle.bench.specs.Places.{holder-waits, some-holder}
 use Rattle.bench.specs.Taken.{round-taken, positive}
-use Rattle.bench.specs.Fates.{fareAt, winner-some}
+use Rattle.bench.specs.Fates.{winner-some}
 use Rattle.bench.specs.Winner.{wins}
 use Rattle.bench.specs.RowShows.{sound-at}
 use Rattle.bench.specs.Readable.{round-reads}
-
--- a station as it stands in memory: eleven stored bytes
-pub record InMemory (s : Station) : Type 0 where
-  pub eleven : length (s .bytes) ≡ mostStored
-  pub bytes : Bytes (s .bytes)
 
 take-bytes : (n : ℕ) (bs : List ℕ) → Bytes bs → Bytes (take n bs)
 take-bytes zero bs h = tt

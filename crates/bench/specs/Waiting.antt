@@ -1,3 +1,4 @@
+-- Laws.
 -- How long a message waits, over any history of calls that keep their promises, each taken or turned away: one call at a time,
 -- then all of them.
 use Prim.Native.Nat.{ℕ, _+_, _≤_}
@@ -19,22 +20,16 @@ use Rattle.bench.specs.Stations.{Bits, bitsSent, blank}
 use Rattle.bench.specs.OrderLaws.{ahead-differs, different-same}
 use Rattle.bench.specs.Calls.{load, withdraw, setClock, round, taken, after}
 use Rattle.bench.specs.Promises.{calledNumber, toldNumber, LoadPromise, WithdrawPromise, ClockPromise, RoundPromise}
-use Rattle.bench.specs.Histories.{waiting, differentAhead, Event, loads, withdraws, setsClock, plays, callOf, Keeps, Happens, nothing, then, roundSeen, roundsSeen, loadSeen, loadsSeen, trafficSeen, NoTrafficSeen}
+use Rattle.bench.specs.Histories.{waiting, Event, loads, withdraws, setsClock, plays, callOf, Keeps, Happens, nothing, then, roundSeen, roundsSeen, loadSeen, loadsSeen, trafficSeen}
 use Rattle.bench.specs.HistoryLaws.{accepted-taken, row-after}
 use Rattle.bench.specs.First.{first-among}
-use Rattle.bench.specs.RowLaws.{winnerOf, sent-some}
+use Rattle.bench.specs.RowLaws.{sent-some}
+use Rattle.bench.specs.RoundStated.{winnerOf}
 use Rattle.bench.specs.Places.{waiting-at, empty-none, at-among}
 use Rattle.bench.specs.Taken.{load-taken}
 use Rattle.bench.specs.Counting.{without-at, Turn, goesNow, waitsOn, turn, set-count, unset-count}
 use Rattle.bench.specs.CallLaws.{load-waiting, withdraw-waiting, clock-waiting, round-waiting, away-same}
-
--- the bits m wait at place s of a row
-abbrev pub WaitsAt : ℕ → Bits → List Station → Type 0
-WaitsAt s m row = getD (waiting row) s [] ≡ m
-
--- how many different messages are ahead of m in a row
-abbrev pub aheadNow : Bits → List Station → ℕ
-aheadNow m row = differentAhead m (waiting row)
+use Rattle.bench.specs.WaitStated.{WaitsAt, aheadNow, GoesOut}
 
 -- ## One call
 
@@ -135,25 +130,6 @@ module _ (s : ℕ) (m : Bits) (some : m ≢ []) (row next : List Station) (h : W
   step (plays lent lentExit a) k = step-round lent lentExit a k
 
 -- ## All calls of a history
-
--- The message x goes out from place s in a round of the history, and in time.
-pub record GoesOut (s : ℕ) (x : List ℕ) (row : List Station) (events : List Event) : Type 0 where
-  pub before : List Event
-  pub lent : List ℕ
-  pub lentExit : List ℕ
-  pub answer : RoundAnswer
-  pub later : List Event
-  pub parts : events ≡ before ++ (plays lent lentExit answer ∷ later)
-  -- the rows at that round
-  pub entry : List Station
-  pub exit : List Station
-  pub until : Happens row before entry
-  pub keeps : RoundPromise entry exit lent lentExit answer
-  pub played : taken (round lent) entry ≡ true
-  pub held : WaitsAt s (bitsSent x) entry
-  pub wins : winnerOf entry ≡ bitsSent x
-  pub latest : roundsSeen before ≤ aheadNow (bitsSent x) row + loadsSeen x before
-  pub exactly : NoTrafficSeen before → roundsSeen before ≡ aheadNow (bitsSent x) row
 
 -- The message x is withdrawn from place s by a call of the history, while it waits.
 pub record TakenBack (s : ℕ) (x : List ℕ) (row : List Station) (events : List Event) : Type 0 where

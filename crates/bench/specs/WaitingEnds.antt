@@ -1,3 +1,4 @@
+-- Laws.
 -- Demand 3: waiting ends. A message that is loaded and not withdrawn goes out, whole and readable, no later than round
 -- 1 + A + L from its loading; with no loading or withdrawal in exactly round A + 1. Whatever rows, words and answers keep the
 -- promises, it is so, and is seen by the answers alone.
@@ -7,49 +8,33 @@ use mathlib.Core.Bool.{true, false, and-false}
 use mathlib.Core.List.{List, [], _∷_, _++_}
 use native.Mathlib.Omega.{arith}
 use lib.Dec.{eqb}
-use lib.ListN.{length, take, getD}
+use lib.ListN.{length, getD}
 use lib.Seq.{getD-set-same}
 use borrow.Author.Tests.{eq-eqb}
 use Rattle.laws.specs.Tests.{never}
-use Rattle.checkbyte.specs.Differ.{Bytes}
-use Rattle.frame.specs.declared.Response.the-variants.{Without}
-use Rattle.frame.specs.Faults.{mostBytes}
-use Rattle.frame.specs.Reading.{good, reading}
-use Rattle.frame.specs.Writing.{frameSent}
+use Rattle.checkbyte.specs.Register.{Bytes}
 use Rattle.bench.specs.declared.Station.{Station}
-use Rattle.bench.specs.declared.Fared.the-variants.{Idle, Through}
+use Rattle.bench.specs.declared.Fared.the-variants.{Idle}
 use Rattle.bench.specs.declared.Called.{Called}
 use Rattle.bench.specs.declared.RoundAnswer.{RoundAnswer}
 use Rattle.bench.specs.Stations.{mostStored, Bits, bitsSent, waitingAt}
 use Rattle.bench.specs.OrderLaws.{same-refl}
-use Rattle.bench.specs.Contest.{sumOf, roundOf, verdictOf}
+use Rattle.bench.specs.Contest.{roundOf, verdictOf}
 use Rattle.bench.specs.Calls.{load, round, numberOf, taken}
-use Rattle.bench.specs.Promises.{calledNumber, toldNumber, LoadPromise, RoundPromise, RoundSaid, said, played, roundSays}
+use Rattle.bench.specs.Promises.{calledNumber, LoadPromise, RoundPromise, RoundSaid, said, played, roundSays}
 use Rattle.bench.specs.Histories.{waiting, aheadIn, Event, loads, withdraws, setsClock, plays, Happens, roundsSeen, loadSeen, loadsSeen, withdrawalSeen, NoWithdrawalSeen, trafficSeen, NoTrafficSeen}
-use Rattle.bench.specs.RowLaws.{winnerOf}
-use Rattle.bench.specs.Places.{waiting-at, waiting-length, empty-none, stationAt}
+use Rattle.bench.specs.RoundStated.{winnerOf, stationAt}
+use Rattle.bench.specs.Places.{waiting-at, waiting-length, empty-none}
 use Rattle.bench.specs.Taken.{LoadTaken, load-taken}
 use Rattle.bench.specs.Winner.{wins, verdict-at}
 use Rattle.bench.specs.LineTime.{on-the-line, words-first}
 use Rattle.bench.specs.Counting.{own-count, without-at}
 use Rattle.bench.specs.CallLaws.{load-waiting, round-waiting}
 use Rattle.bench.specs.Readable.{round-reads}
-use Rattle.bench.specs.Waiting.{WaitsAt, aheadNow, GoesOut, TakenBack, Fate, out, withdrawn, waits, fate}
+use Rattle.bench.specs.Waiting.{TakenBack, Fate, out, withdrawn, waits, fate}
+use Rattle.bench.specs.WaitStated.{WaitsAt, aheadNow, GoesOut, Shows, GoesOutInTime}
 
 -- ## What it is to go out
-
--- A round's answer, its words and the row after it show the message x going out from place s.
-pub record Shows (s : ℕ) (x : List ℕ) (exit : List Station) (lentExit : List ℕ) (a : RoundAnswer) : Type 0 where
-  pub told : toldNumber (a .told) ≡ 0
-  pub through : getD (a .verdicts) s (verdictOf Idle) ≡ verdictOf Through
-  -- whole and readable: x is what demand 2's reader finds in the lent words afterwards
-  pub readable : (bytesLent : ℕ) → mostBytes ≤ bytesLent → reading lentExit 0 bytesLent ≡ good (frameSent x Without [] 0 (2 + length (bitsSent x)))
-  -- the line time is the sum of the words written, less the closing 300
-  pub time : a .«line_time» .0 + 300 ≡ sumOf (take (a .words) lentExit)
-  -- "No round takes more than 14,438 µs of line time"
-  pub bound : a .«line_time» .0 ≤ 14438
-  -- the place is empty afterwards
-  pub emptied : waitingAt (stationAt exit s) ≡ []
 
 module _ (s : ℕ) (x : List ℕ) (b : Bytes x) (lo : 1 ≤ length x) (hi : length x ≤ mostStored) {row exit : List Station} {lent lentExit : List ℕ} {a : RoundAnswer}
     (p : RoundPromise row exit lent lentExit a) (t : taken (round lent) row ≡ true) (h : WaitsAt s (bitsSent x) row) (w : winnerOf row ≡ bitsSent x) where
@@ -118,16 +103,6 @@ quiet-before [] later u = tt
 quiet-before (e ∷ before) later u = (u .0, quiet-before before later (u .1))
 
 -- ## Demand 3
-
--- The message x, loaded at place s of the row start, which became row, goes out in a round of the calls that follow, whole and
--- readable. A is `aheadIn start x`, L is counted up to that round, and so are the rounds.
-pub record GoesOutInTime (s : ℕ) (x : List ℕ) (start row : List Station) (events : List Event) : Type 0 where
-  pub out : GoesOut s x row events
-  pub shown : Shows s x (out .exit) (out .lentExit) (out .answer)
-  -- "no later than round 1 + A + L from its loading"
-  pub latest : roundsSeen (out .before) + 1 ≤ 1 + aheadIn start x + loadsSeen x (out .before)
-  -- "with no loading or withdrawal in exactly round A + 1"
-  pub exactly : NoTrafficSeen (out .before) → roundsSeen (out .before) + 1 ≡ aheadIn start x + 1
 
 -- What becomes of it over any history of calls.
 pub data Outcome (s : ℕ) (x : List ℕ) (start row : List Station) (events : List Event) (exit : List Station) : Type 0 where

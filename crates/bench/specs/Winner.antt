@@ -1,3 +1,4 @@
+-- Laws.
 -- Who goes out, and where each of the others stops. The winner of a round is the message that is ahead of all others that
 -- wait; exactly its holders get through; every other holder loses at the first difference from it.
 use Prim.Native.Nat.{ℕ, zero, suc, _-_}
@@ -19,25 +20,14 @@ use Rattle.bench.specs.Contest.{roundOf, verdictOf, verdictsOf}
 use Rattle.bench.specs.Calls.{round, taken, allSound, allEmpty}
 use Rattle.bench.specs.Histories.{waiting}
 use Rattle.bench.specs.First.{first-among}
-use Rattle.bench.specs.RowLaws.{winnerOf, faresAgainst, row-fares}
+use Rattle.bench.specs.RowLaws.{faresAgainst, row-fares}
+use Rattle.bench.specs.RoundStated.{winnerOf, stationAt, FirstDifference, fareAt, Wins}
 use Rattle.bench.specs.Taken.{round-taken}
-use Rattle.bench.specs.Places.{stationAt, waiting-at, empty-none, some-holder, among-at}
-use Rattle.bench.specs.Difference.{FirstDifference, lost-there}
-use Rattle.bench.specs.Fates.{fareAt, winner-some, Fate, isIdle, isThrough, isLost, fate, holder-fares}
+use Rattle.bench.specs.Places.{waiting-at, empty-none, some-holder, among-at}
+use Rattle.bench.specs.Difference.{lost-there}
+use Rattle.bench.specs.Fates.{winner-some, Fate, isIdle, isThrough, isLost, fate, holder-fares}
 
 -- ## The winner
-
--- The bits w win the round on a row.
-pub record Wins (row : List Station) (w : Bits) : Type 0 where
-  -- a station holds them
-  pub holder : ℕ
-  pub holds : empty (stationAt row holder) ≡ false
-  pub its-bits : waitingAt (stationAt row holder) ≡ w
-  -- they are ahead of all others that wait
-  pub leads : (i : ℕ) → empty (stationAt row i) ≡ false → waitingAt (stationAt row i) ≢ w → Ahead w (waitingAt (stationAt row i))
-  -- exactly the places that hold them get through, and exactly the empty ones are idle
-  pub through : (i : ℕ) → (fareAt row i ≡ Through) ↔ (waitingAt (stationAt row i) ≡ w)
-  pub idle : (i : ℕ) → (fareAt row i ≡ Idle) ↔ (empty (stationAt row i) ≡ true)
 
 -- no place fares in two ways
 idle-through : {A : Type 0} {f : Fared} → f ≡ Idle → f ≡ Through → A

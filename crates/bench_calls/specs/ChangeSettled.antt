@@ -1,3 +1,4 @@
+-- Laws.
 -- The calls at a place of a row by value are settled: each promise leaves one answer and one bench, and each refusal comes
 -- exactly when its rule holds, with the bench as it was.
 use Prim.Native.Nat.{ℕ, _<_}

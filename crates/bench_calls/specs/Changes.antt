@@ -1,3 +1,4 @@
+-- Machinery.
 -- The calls at a place of a row by value: the number of the first rule that turns the call away, and the bench after it.
 use Prim.Native.Nat.{ℕ}
 use mathlib.Core.Path.{_≡_}

@@ -1,3 +1,5 @@
-pub mod Changes
+-- Laws.
 pub mod ChangeLaws
 pub mod ChangeSettled
+-- Machinery.
+pub mod Changes

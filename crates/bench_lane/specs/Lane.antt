@@ -1,3 +1,4 @@
+-- Definitions.
 -- One place of a round as the code keeps it: what it asks at a bit, and what becomes of it.
 use Prim.Native.Nat.{ℕ, _-_, _/_, _%_, _^_, min, max}
 use mathlib.Core.Bool.{Bool, true, cond, Bool·beq}

@@ -1,3 +1,4 @@
+-- Laws.
 -- A law of one place.
 use Prim.Native.Nat.{ℕ}
 use mathlib.Core.Path.{_≡_, refl}

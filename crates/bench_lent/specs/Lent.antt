@@ -1,3 +1,4 @@
+-- Laws.
 -- The calls on a lent row keep their promises: the row is gathered into a bench, the bench is worked on, and put back.
 use Prim.Native.Nat.{ℕ, _-_, _≤_, _<_}
 use mathlib.Core.Path.{_≡_, refl, ap, _∙_}

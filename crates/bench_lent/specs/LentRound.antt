@@ -1,3 +1,4 @@
+-- Laws.
 -- A round on a lent row keeps its promise: the row is gathered into a bench, the round is played on the bench, and the bench
 -- is put back.
 use Prim.Native.Nat.{ℕ, suc, _+_, _-_, _≤_}
@@ -17,7 +18,8 @@ use Rattle.bench.specs.Contest.{Round, roundOf, verdictOf, verdictsOf, afterFar
 use Rattle.bench.specs.Calls.{round, allSound, numberOf, taken, done, after, written, lentAfter}
 use Rattle.bench.specs.Promises.{RoundSaid, RoundPromise, said, played, turnedAway, roundSays}
 use Rattle.bench.specs.Taken.{round-taken}
-use Rattle.bench.specs.RowLaws.{winnerOf, faresAgainst, row-fares}
+use Rattle.bench.specs.RowLaws.{faresAgainst, row-fares}
+use Rattle.bench.specs.RoundStated.{winnerOf}
 use Rattle.bench_row.specs.declared.Bench.{Bench}
 use Rattle.bench_round.specs.declared.Played.{Played}
 use Rattle.bench_row.specs.Benches.{benchOf}

@@ -1,4 +1,6 @@
+-- Laws.
 pub mod Padding
-pub mod Restoring
 pub mod Lent
 pub mod LentRound
+-- Machinery.
+pub mod Restoring

@@ -1,3 +1,4 @@
+-- Laws.
 -- A row and blank stations past its end: the same rules, the same round, idle past the row.
 use Prim.Native.Nat.{ℕ, zero, suc, _+_, _-_}
 use mathlib.Core.Path.{_≡_, refl, ap, _∙_}

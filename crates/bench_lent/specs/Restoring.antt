@@ -1,3 +1,4 @@
+-- Machinery.
 -- A lent row becomes a bench, and a bench goes back into the lent row.
 use Prim.Native.Nat.{ℕ, zero, suc, _+_, _-_, _≤_, _<_, min}
 use mathlib.Core.Path.{_≡_, refl, sym, ap, _∙_}

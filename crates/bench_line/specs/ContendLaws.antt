@@ -1,3 +1,4 @@
+-- Laws.
 -- Laws of contending: it is settled; a row of sound stations is taken as it is; and how the code comes to it.
 use Prim.Native.Nat.{ℕ, zero, suc, _≤_, _<_, min}
 use mathlib.Core.Path.{_≡_, refl, sym, subst, ap, ap₂, _∙_}
@@ -22,7 +23,8 @@ use Rattle.bench_line.specs.declared.Contended.{Contended}
 use Rattle.bench_line.specs.Lanes.{Lanes, lanesOf}
 use Rattle.bench_line.specs.Seats.{LanesOk, faresAt}
 use Rattle.bench_line.specs.Sending.{courseOf, SendsBits}
-use Rattle.bench_line.specs.Entries.{widthOf, clipped, clippedCount, clippedFrame, lanesIn, verdictsAt}
+use Rattle.bench_line.specs.Entries.{widthOf, clippedCount, clippedFrame, lanesIn, verdictsAt}
+use Rattle.bench_line.specs.Stated.{clipped}
 use Rattle.bench_line.specs.Starting.{start-ok, start-seats}
 use Rattle.bench_line.specs.Contending.{courseOn, nobody, courseLent, ContendedIn, ContendedBy, nobodySent}
 

@@ -1,3 +1,4 @@
+-- Definitions.
 -- What contending on a row by value comes to: the bits that are sent, and how each place fares.
 use Prim.Native.Nat.{ℕ}
 use mathlib.Core.Path.{_≡_}
@@ -13,7 +14,7 @@ use Rattle.bench.specs.Stations.{mostStations}
 use Rattle.bench.specs.Round.{out, Course, over, mostBits, play, faredAt}
 use Rattle.bench.specs.Contest.{entryOf, seatOf, verdictOf}
 use Rattle.bench_line.specs.declared.Contended.{Contended}
-use Rattle.bench_line.specs.Entries.{clipped}
+use Rattle.bench_line.specs.Stated.{clipped}
 
 -- the bits of a round on a row
 unfoldable pub courseOn : List Station → Course

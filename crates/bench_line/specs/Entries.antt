@@ -1,5 +1,6 @@
+-- Laws.
 -- What the stations bring to a round, as the code keeps it.
-use Prim.Native.Nat.{ℕ, _*_, _-_, min}
+use Prim.Native.Nat.{ℕ, _*_, _-_}
 use mathlib.Core.Bool.{Bool, true, false, cond}
 use mathlib.Core.List.{List, _++_, map}
 use lib.ListN.{length, replicate}
@@ -10,6 +11,7 @@ use Rattle.bench.specs.Stations.{mostStored, stored, empty}
 use Rattle.bench.specs.Contest.{verdictOf}
 use Rattle.bench_line.specs.Lanes.{Lanes, lanesOf}
 use Rattle.bench_line.specs.Seats.{faresAt}
+use Rattle.bench_line.specs.Stated.{clipped}
 
 -- how many bits a station has to send, with those of its check byte: none where it is empty
 unfoldable pub countOf : Station → ℕ
@@ -23,10 +25,6 @@ frameOf s = withCheck (stored s) ++ replicate (mostStored - length (stored s)) 0
 abbrev pub widthOf : Bool → Station → ℕ
 widthOf true s = s .clock .long .0
 widthOf false s = s .clock .short .0
-
--- A station of a stored length past 11 is taken as one that stores 11 bytes; a sound one is as it is.
-abbrev pub clipped : Station → Station
-clipped s = record { clock = s .clock; bytes = s .bytes; len = min (s .len) mostStored }
 
 -- how many bits it then has to send
 abbrev pub clippedCount : Station → ℕ

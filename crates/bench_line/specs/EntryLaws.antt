@@ -1,3 +1,4 @@
+-- Laws.
 -- Laws of the loops over the stations of a row: an array that has something of each station, and what one station brings.
 use Prim.Native.Nat.{ℕ, zero, suc, _+_, _*_, _-_, _≤_, _<_, min}
 use mathlib.Core.Path.{_≡_, refl, sym, subst, ap, ap₂, _∙_}
@@ -14,7 +15,8 @@ use Rattle.bench.specs.Contest.{verdictOf}
 use Rattle.loops.specs.Scan.{from, map-from, from-list, getD-any, filled, fill-start, fill-more, fill-all}
 use Rattle.bench_line.specs.Lanes.{mostSent}
 use Rattle.bench_line.specs.Seats.{faredIn, faresAt}
-use Rattle.bench_line.specs.Entries.{countOf, frameOf, clipped, clippedCount, clippedFrame, verdictsAt}
+use Rattle.bench_line.specs.Entries.{countOf, frameOf, clippedCount, clippedFrame, verdictsAt}
+use Rattle.bench_line.specs.Stated.{clipped}
 
 -- ## An array that has something of each station
 

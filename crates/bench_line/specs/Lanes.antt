@@ -1,3 +1,4 @@
+-- Laws.
 -- The lanes of a round as the code keeps them: what each place asks at a bit, and what becomes of it.
 use Prim.Native.Nat.{ℕ, suc, _+_, _/_}
 use mathlib.Core.Bool.{Bool, false}

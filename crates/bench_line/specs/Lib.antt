@@ -1,3 +1,7 @@
+-- Definitions.
+pub mod Contending
+pub mod Stated
+-- Laws.
 pub mod Lanes
 pub mod LoopLaws
 pub mod Seats
@@ -6,5 +10,4 @@ pub mod Sending
 pub mod Entries
 pub mod EntryLaws
 pub mod Starting
-pub mod Contending
 pub mod ContendLaws

@@ -1,3 +1,4 @@
+-- Laws.
 -- The loops over the lanes: what they have come to, and one place more.
 use Prim.Native.Nat.{ℕ, _+_, _-_, _≤_, _<_}
 use mathlib.Core.Path.{_≡_, refl, sym, ap, _∙_}

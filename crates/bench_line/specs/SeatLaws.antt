@@ -1,3 +1,4 @@
+-- Laws.
 -- Lanes and places agree, bit by bit: what a lane asks and what becomes of it is what the definition says of its place.
 use Prim.Native.Nat.{ℕ, zero, suc, _+_, _*_, _-_, _/_, _%_, _^_, _≤_, _<_, max}
 use mathlib.Core.Path.{_≡_, refl, sym, ap, _∙_}

@@ -1,3 +1,4 @@
+-- Laws.
 -- The lanes stand for the places of a round: which place of the definition each of them is, at each bit.
 use Prim.Native.Nat.{ℕ, _≤_, _<_}
 use mathlib.Core.Path.{_≡_}

@@ -1,3 +1,4 @@
+-- Laws.
 -- The loop over the bits of a round: what is written and what is still to come make up the whole.
 use Prim.Native.Nat.{ℕ, zero, suc, _+_, _-_, _≤_, _<_}
 use mathlib.Core.Path.{_≡_, refl, sym, ap, ap₂, _∙_}

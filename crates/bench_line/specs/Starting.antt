@@ -1,3 +1,4 @@
+-- Laws.
 -- When a round begins, the lanes of the stations stand for the places that the stations take in it.
 use Prim.Native.Nat.{ℕ, zero, suc, _*_, _-_, _≤_, _<_}
 use mathlib.Core.Path.{_≡_, refl, sym, ap, ap₂, _∙_}
@@ -21,7 +22,8 @@ use Rattle.bench.specs.Contest.{absent, pulsesOf, holder, entryOf, seatOf}
 use Rattle.loops.specs.Scan.{from, from-same, from-list}
 use Rattle.bench_line.specs.Lanes.{mostSent}
 use Rattle.bench_line.specs.Seats.{LanesOk, clockAt, restAt, seatAt, seatsAt}
-use Rattle.bench_line.specs.Entries.{countOf, frameOf, widthOf, clipped, clippedCount, clippedFrame, lanesIn}
+use Rattle.bench_line.specs.Entries.{countOf, frameOf, widthOf, clippedCount, clippedFrame, lanesIn}
+use Rattle.bench_line.specs.Stated.{clipped}
 
 at-map : {B : Type 0} (f : Station → B) (row : List Station) (i : ℕ) (d : B) → i < length row → getD (map f row) i d ≡ f (getD row i blank)
 at-map f [] i d h = absurd (omega arith)

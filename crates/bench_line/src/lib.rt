@@ -5,7 +5,7 @@ ghost use mathlib.Core.Path.{_≡_};
 ghost use mathlib.Core.List.{map};
 ghost use lib.ListN.{length};
 ghost use Rattle.frame.specs.Writing.{mostWords};
-ghost use Rattle.bench_line.specs.Entries.{clipped};
+ghost use Rattle.bench_line.specs.Stated.{clipped};
 ghost use Rattle.bench_line.specs.Contending.{courseOn, nobodySent, ContendedIn, ContendedBy};
 use bench::Fared;
 use bench::MOST_STATIONS;

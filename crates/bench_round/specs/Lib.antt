@@ -1,4 +1,6 @@
-pub mod Rounds
-pub mod Playing
+-- Laws.
 pub mod RoundOutcomes
 pub mod PlayedSettled
+-- Machinery.
+pub mod Rounds
+pub mod Playing

@@ -1,3 +1,4 @@
+-- Laws.
 -- A round on a row by value is settled: its promise leaves one answer, one bench and one state of the lent words, and each
 -- refusal comes exactly when its rule holds, with the bench and the words as they were.
 use Prim.Native.Nat.{ℕ, _<_}

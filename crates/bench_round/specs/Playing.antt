@@ -1,3 +1,4 @@
+-- Machinery.
 -- A round that passed its tests: what its words, its line time and its verdicts come to, and the stations after it.
 use Prim.Native.Nat.{ℕ, zero, suc, _+_, _-_, _≤_, _<_}
 use mathlib.Core.Path.{_≡_, refl, sym, ap, ap₂, subst, _∙_}
@@ -17,7 +18,8 @@ use Rattle.bench.specs.Stations.{mostStations, blank}
 use Rattle.bench.specs.Round.{longest, Course, mostBits}
 use Rattle.bench.specs.Contest.{entryOf, sofsAsked, sumOf, roundOf, contestOf, verdictOf, verdictsOf, afterFare, afterFares}
 use Rattle.bench.specs.Calls.{allSound, written}
-use Rattle.bench.specs.RowLaws.{winnerOf, faresAgainst, row-fares, row-comes}
+use Rattle.bench.specs.RowLaws.{faresAgainst, row-fares, row-comes}
+use Rattle.bench.specs.RoundStated.{winnerOf}
 use Rattle.bench.specs.Promises.{RoundSaid, played}
 use Rattle.loops.specs.Scan.{from, from-same, filled, fill-more, fill-all, fold-start, fold-more, fold-all, getD-any}
 use Rattle.bench_line.specs.declared.Contended.{Contended}

@@ -1,3 +1,4 @@
+-- Machinery.
 -- A round on a row by value: what it answers, the bench after it, and the words that it leaves.
 use Prim.Native.Nat.{ℕ}
 use mathlib.Core.Path.{_≡_}

@@ -1,3 +1,4 @@
+-- Machinery.
 -- A row by value, as it is gathered from a lent one.
 use mathlib.Core.List.{List, _++_}
 use lib.ListN.{length, take, replicate}

@@ -1,4 +1,6 @@
-pub mod Surveys
+-- Laws.
 pub mod SurveyLaws
-pub mod Benches
 pub mod Whole
+-- Machinery.
+pub mod Surveys
+pub mod Benches

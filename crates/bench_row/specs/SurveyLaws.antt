@@ -1,3 +1,4 @@
+-- Laws.
 -- Laws of the loop that asks of a whole row, station by station from its end.
 use Prim.Native.Nat.{ℕ, _-_, _≤_, _<_, max}
 use mathlib.Core.Path.{_≡_, refl}

@@ -1,3 +1,4 @@
+-- Machinery.
 -- What is asked of a whole row before a call on it is taken.
 use Prim.Native.Nat.{ℕ, max}
 use mathlib.Core.Bool.{cond, _&&_}

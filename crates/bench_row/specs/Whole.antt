@@ -1,3 +1,4 @@
+-- Laws.
 -- What the type says of a station that a function is given: its array is whole.
 use mathlib.Core.Path.{_≡_, sym, _∙_}
 use mathlib.Core.List.{[], _∷_}

@@ -1,5 +1,6 @@
+-- Definitions.
 -- What the exported calls on a row give: the answers of the bench, with document 01's number first and a number for how each
--- place fared. Definitions only.
+-- place fared.
 use Prim.Native.Nat.{ℕ}
 use mathlib.Core.List.{map}
 use Rattle.bench.specs.declared.Fared.{Fared}

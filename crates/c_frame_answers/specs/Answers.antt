@@ -1,5 +1,6 @@
+-- Definitions.
 -- What the exported calls on volts, writing, reading and the desk's text, and the small questions, give: document 01's number
--- first, and the number of a symbol and of a kind of response. Definitions only.
+-- first, and the number of a symbol and of a kind of response.
 use Prim.Native.Nat.{ℕ}
 use mathlib.Core.Bool.{Bool, cond, not}
 use mathlib.Core.List.{List}

@@ -1,4 +1,5 @@
--- What the exported calls on a live reader give: its answers with the documents' number first. Definitions only.
+-- Definitions.
+-- What the exported calls on a live reader give: its answers with the documents' number first.
 use Prim.Native.Nat.{ℕ}
 use mathlib.Core.List.{List, [], _∷_}
 use Rattle.frame.specs.Answers.{Told}

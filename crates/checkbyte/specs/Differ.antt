@@ -1,3 +1,4 @@
+-- Laws.
 -- The register tells a right check byte from every wrong one.
 use mathlib.Core.Path.{_≡_, sym, ap, _∙_}
 use mathlib.Core.Bool.{Bool, cond}
@@ -10,11 +11,6 @@ use Rattle.laws.specs.Each.{each}
 use Rattle.checkbyte.specs.Register.{eightShifts, stepOf, registerFrom, registerOf, checkOf, allOnes, residue, polynomial}
 use Rattle.checkbyte.specs.Residue.{register-lt, register-append, inverse}
 use Rattle.checkbyte.specs.Xor.{xor-same}
-
--- every number of the list is a byte, as every element of a slice of u8 is
-abbrev pub Bytes : List ℕ → Type 0
-Bytes [] = Unit {0}
-Bytes (b ∷ bs) = (b < 256) × Bytes bs
 
 -- A shift undone: a register that has come out odd had the polynomial added to it.
 back : ℕ → ℕ

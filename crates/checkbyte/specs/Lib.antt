@@ -1,4 +1,6 @@
+-- Definitions.
 pub mod Register
+-- Laws.
 pub mod Residue
 pub mod Xor
 pub mod Differ

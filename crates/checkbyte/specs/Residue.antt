@@ -1,3 +1,4 @@
+-- Laws.
 -- Over any bytes and their check byte together the register ends at 0xC4, and over no others.
 use mathlib.Core.Path.{_≡_, refl, ap, _∙_}
 use mathlib.Core.Bool.{Bool, true}

@@ -1,3 +1,4 @@
+-- Laws.
 -- Exclusive or loses nothing: from a number and its exclusive or with another, the other is known.
 use mathlib.Core.Path.{_≡_, refl, sym, _∙_}
 use Prim.Native.Nat.{ℕ, zero, suc, _+_, _*_, _/_, _%_, _^_, _<_}

@@ -1,3 +1,4 @@
+-- Machinery.
 -- What reading into a buffer answers.
 use mathlib.Core.List.{List}
 use Prim.Native.Nat.{ℕ}

@@ -1,3 +1,4 @@
+-- Laws.
 -- A hex digit is a numeral below 10 and a capital letter from 10 on.
 use Prim.Native.Nat.{ℕ, _+_, _≤_, _<_}
 use mathlib.Core.Path.{_≡_}

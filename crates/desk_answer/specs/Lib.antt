@@ -1,2 +1,4 @@
+-- Definitions.
 pub mod Shown
+-- Laws.
 pub mod HexLaws

@@ -1,3 +1,4 @@
+-- Definitions.
 -- What the lines of the text take from an answer, told by the definitions of the rooms below.
 use Prim.Native.Nat.{ℕ}
 use mathlib.Core.Bool.{Bool, true, false}

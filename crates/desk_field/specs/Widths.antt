@@ -1,3 +1,4 @@
+-- Definitions.
 -- The width that a field spells, or that it spells none.
 use Prim.Native.Nat.{ℕ}
 use mathlib.Core.Bool.{Bool, true, false, _&&_}

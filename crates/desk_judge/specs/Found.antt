@@ -1,3 +1,4 @@
+-- Machinery.
 -- What the steps of judging find, told by the definitions of `desk_text`.
 use Prim.Native.Nat.{ℕ, _≤_}
 use mathlib.Core.Path.{_≡_}

@@ -1,1 +1,2 @@
+-- Machinery.
 pub mod Found

@@ -15,7 +15,8 @@ use Rattle.frame.specs.ReadSettled.{told-once}
 use Rattle.desk_text.specs.Grammar.{tab}
 use Rattle.desk_text.specs.Numerals.{decimal, hex}
 use Rattle.desk_text.specs.Report.{w-frame, w-quiet, w-unfinished, w-fault, w-none, lineOf, marked, rowOf}
-use Rattle.desk_text.specs.AnswerLaws.{Answer, isSilence, isOpen, isFrame, isFault, answer-is}
+use Rattle.desk_text.specs.AnswerLaws.{answer-is}
+use Rattle.desk_text.specs.Stated.{Answer, isSilence, isOpen, isFrame, isFault}
 use Rattle.desk_answer.specs.declared.Next.{Next}
 use Rattle.desk_answer.specs.Shown.{afterOf}
 use Rattle.desk_report.specs.Laying.{Laid, Room, tabbed, frameEnd, faultEnd, Holds, lineIn}

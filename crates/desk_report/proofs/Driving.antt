@@ -10,7 +10,7 @@ use Rattle.laws.specs.Lent.{sets-then}
 use Rattle.frame.specs.Line.{single}
 use Rattle.frame.specs.Faults.{mostBytes}
 use Rattle.frame.specs.Reading.{Outcome, good, quiet, unfinished, faulty, refused}
-use Rattle.frame.specs.Outcomes.{goesOn}
+use Rattle.frame.specs.ReadStated.{goesOn}
 use Rattle.frame.specs.ReadingOn.{nextOf, progress, ReadsOn, last, more, answersIn, reads-on, reads-once}
 use Rattle.desk_text.specs.Report.{rowOf, rowsOf}
 use Rattle.desk_answer.specs.declared.Next.the-variants.{At, Nowhere}

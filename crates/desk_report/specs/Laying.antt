@@ -1,3 +1,4 @@
+-- Machinery.
 -- What the steps of printing lay down, told by the definitions of the rooms below.
 use Prim.Native.Nat.{ℕ, _+_, _≤_}
 use mathlib.Core.Path.{_≡_}

@@ -1,2 +1,3 @@
+-- Machinery.
 pub mod Laying
 pub mod Reporting

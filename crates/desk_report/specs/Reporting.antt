@@ -1,3 +1,4 @@
+-- Machinery.
 -- What printing a whole report comes to, from any position of a recording on.
 use Prim.Native.Nat.{ℕ, _+_, _-_, _≤_}
 use mathlib.Core.Path.{_≡_}

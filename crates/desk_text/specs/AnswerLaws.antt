@@ -1,3 +1,4 @@
+-- Laws.
 -- What the answers of a recording can be: reading from within it, with twelve bytes lent, is never turned away.
 use Prim.Native.Nat.{ℕ, _+_, _-_, _%_, _≤_, _<_}
 use mathlib.Core.Path.{_≡_, refl}
@@ -15,25 +16,19 @@ use Rattle.frame.specs.Signs.{wrongOf}
 use Rattle.frame.specs.Line.{symbolAt, signOf, single, endAt}
 use Rattle.frame.specs.Standing.{Standing, stands}
 use Rattle.frame.specs.Faults.{mostBytes}
-use Rattle.frame.specs.Reading.{Good, Outcome, good, quiet, unfinished, faulty, faultAt, frameAt, decided, reading}
+use Rattle.frame.specs.Reading.{Good, Outcome, faultAt, frameAt, decided, reading}
 use Rattle.frame.specs.ShownLaws.{end-passive}
 use Rattle.frame.specs.Answers.{faultNumber}
-use Rattle.frame.specs.Outcomes.{Opens, Comes, isPast, isShort, isQuiet, isOpened, comes}
+use Rattle.frame.specs.Outcomes.{comes}
+use Rattle.frame.specs.ReadStated.{Opens, Comes, isPast, isShort, isQuiet, isOpened, AtFaultOf, wrongItself, bitForSof, sofAgain, byteSplit, bytesFew, checkWrong, eodAfter, pastLimit}
 use Rattle.frame.specs.Decided.{Decision, isUnfinished, isGood, isFaulty, decision}
-use Rattle.frame.specs.EachFault.{AtFaultOf, wrongItself, bitForSof, sofAgain, byteSplit, bytesFew, checkWrong, eodAfter, pastLimit, fault-said}
-use Rattle.frame.specs.Admitted.{Admitted, admitted}
-use Rattle.frame.specs.Again.{WrittenAgain, written-again}
-use Rattle.frame.specs.ByteLaws.{withoutCheck}
-use Rattle.frame.specs.Nominal.{responseBare}
+use Rattle.frame.specs.EachFault.{fault-said}
+use Rattle.frame.specs.Admitted.{admitted}
+use Rattle.frame.specs.WriteStated.{Admitted, WrittenAgain}
+use Rattle.frame.specs.Again.{written-again}
+use Rattle.frame.specs.Nominal.{withoutCheck, responseBare}
 use Rattle.frame.specs.WidthLaws.{frame-words-length}
-
--- An answer of reading from p in the recording ws, with what is known of its places and sizes.
-pub data Answer (ws : List ℕ) (p : ℕ) : Outcome → Type 0 where
-  isSilence : Answer ws p (quiet p)
-  isOpen : {o : ℕ} → p ≤ o → o < length ws → Answer ws p (unfinished o)
-  isFrame : {f : Good} → p ≤ f .opening → f .opening % 2 ≡ 0 → f .opening + 18 ≤ f .next → f .next < length ws
-      → length (f .main) + length (f .response) ≤ mostBytes → Answer ws p (good f)
-  isFault : {o k n : ℕ} (f : Fault) → faultNumber f ≡ n → p ≤ o → o % 2 ≡ 0 → o < k → k < length ws → Answer ws p (faulty n k)
+use Rattle.desk_text.specs.Stated.{Answer, isSilence, isOpen, isFrame, isFault}
 
 -- ## A fault has one of ten numbers
 

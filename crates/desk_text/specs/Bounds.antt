@@ -1,3 +1,4 @@
+-- Laws.
 -- How long the desk's text can be: each line, the number of lines, and the whole.
 use Prim.Native.Nat.{ℕ, suc, _+_, _-_, _*_, _%_, _≤_, _<_}
 use mathlib.Core.Path.{_≡_, refl}
@@ -15,7 +16,7 @@ use Rattle.frame.specs.declared.Fault.the-variants.{Noise, NoSof, Break, Stuck,
 use Rattle.frame.specs.Faults.{mostBytes}
 use Rattle.frame.specs.Reading.{Outcome, good, quiet, unfinished, faulty, refused, reading}
 use Rattle.frame.specs.Answers.{faultNumber}
-use Rattle.frame.specs.Outcomes.{goesOn}
+use Rattle.frame.specs.ReadStated.{goesOn}
 use Rattle.frame.specs.ReadingOn.{nextOf, ReadsOn, last, more, reads-on}
 use Rattle.label.specs.Labels.{mostLabel}
 use Rattle.desk_text.specs.Input.{lines, mostWidths}
@@ -23,7 +24,8 @@ use Rattle.desk_text.specs.Numerals.{decimal}
 use Rattle.desk_text.specs.Report.{lineOf, header, atOf, kindOf, mainOf, marked, responseOf, rowOf, rowsOf, answers, report}
 use Rattle.desk_text.specs.Calls.{mostText}
 use Rattle.desk_text.specs.NumeralLaws.{five-digits, two-digits, hex-length}
-use Rattle.desk_text.specs.AnswerLaws.{Answer, isSilence, isOpen, isFrame, isFault, answer-is}
+use Rattle.desk_text.specs.AnswerLaws.{answer-is}
+use Rattle.desk_text.specs.Stated.{Answer, isSilence, isOpen, isFrame, isFault}
 
 -- ## A line
 

@@ -1,10 +1,11 @@
+-- Laws.
 -- The desk's calls are settled: each promise leaves one answer and one state of everything lent, and each refusal comes exactly
 -- when its rule holds.
 use Prim.Native.Nat.{ℕ, _<_}
 use mathlib.Core.Path.{_≡_, refl, sym, ap, _∙_}
 use mathlib.Core.Bool.{Bool, true, false, cond, _||_}
 use mathlib.Core.List.{List}
-use mathlib.Core.Logic.{_↔_, _⊎_, inl, inr}
+use mathlib.Core.Logic.{inl, inr}
 use native.Mathlib.Omega.{arith}
 use lib.Dec.{eqb, ltb}
 use lib.ListN.{length}
@@ -19,6 +20,7 @@ use Rattle.frame.specs.Refusals.{TurnedAway}
 use Rattle.desk_text.specs.Input.{lines, firstBad, mostWidths, customerOf, vehicleOf, recordingOf}
 use Rattle.desk_text.specs.Report.{deskOf}
 use Rattle.desk_text.specs.Calls.{good, bad, few, judging, Tale, judgedTold, verdictTells, laidOn, JudgePromise, mostText, reported, turnedDown, short, lentShort, answering, Told, answeredTold, pageTells, DeskPromise}
+use Rattle.desk_text.specs.Stated.{Rules, Short}
 
 -- ## One answer
 
@@ -67,13 +69,6 @@ data Way (s : List ℕ) (Short : Type 0) : ℕ → ℕ → Type 0 where
   isGood : ¬ Short → firstBad (lines s) ≡ 0 → Way s Short 0 0
   isBad : ¬ Short → ¬ (firstBad (lines s) ≡ 0) → Way s Short 62 (firstBad (lines s))
 
--- Each number comes exactly when its rule holds.
-pub record Rules (s : List ℕ) (Short : Type 0) (number line : ℕ) : Type 0 where
-  pub short-exactly : (number ≡ 61) ↔ Short
-  pub bad-exactly : (number ≡ 62) ↔ ((¬ Short) × (¬ (firstBad (lines s) ≡ 0)))
-  pub bad-line : number ≡ 62 → line ≡ firstBad (lines s)
-  pub good-exactly : (number ≡ 0) ↔ ((¬ Short) × (firstBad (lines s) ≡ 0))
-
 rules : {s : List ℕ} {Short : Type 0} {number line : ℕ} → Way s Short number line → Rules s Short number line
 rules (isShort h) =
     record {
@@ -119,10 +114,6 @@ module _ {s entry exit : List ℕ} {r : Judged} (q : JudgePromise s entry exit r
   -- 61, and no word is changed
   pub judge-61 : TurnedAway (judgedTold r .number) 61 (length entry < mostWidths) entry exit
   judge-61 = record { exactly = judge-exactly .short-exactly; unchanged = λ h. q .lends-it ∙ rw (lt-ltb (length entry) mostWidths h) }
-
--- too few words or too few bytes are lent
-abbrev pub Short : ℕ → ℕ → Type 0
-Short words bytes = (words < mostWidths) ⊎ (bytes < mostText)
 
 short-test : (words bytes : ℕ) → Short words bytes → lentShort words bytes ≡ true
 short-test words bytes (inl h) = rw (lt-ltb words mostWidths h)

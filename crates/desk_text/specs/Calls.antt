@@ -1,3 +1,4 @@
+-- Definitions.
 -- What the desk's two calls promise: judging an input into lent words, and writing the whole text into lent bytes.
 -- Two numbers here are ours, where document 01 has none: 61 for a call that is lent too little, 62 for an input that is bad.
 use Prim.Native.Nat.{ℕ, _+_, _*_}

@@ -1,3 +1,4 @@
+-- Laws.
 -- A fixed amount of input decides. A good input has at most 229,414 bytes, and whatever follows the first 229,415 bytes of an
 -- input changes nothing: the line that is bad is bad whatever it goes on with.
 use Prim.Native.Nat.{ℕ, zero, suc, _+_, _-_, _*_, _≤_, _<_}

@@ -1,3 +1,4 @@
+-- Definitions.
 -- Document 01's example of the desk's text, computed from the definition.
 use Prim.Native.Nat.{ℕ}
 use mathlib.Core.Path.{_≡_, refl}

@@ -1,3 +1,4 @@
+-- Laws.
 -- What a good line is made of, and how long it can be.
 use Prim.Native.Nat.{ℕ, suc, _+_, _-_, _*_, _^_, _≤_, _<_}
 use mathlib.Core.Path.{_≡_, refl, sym, ap, _∙_}
@@ -13,22 +14,10 @@ use Rattle.laws.specs.Tests.{never, both, upTo}
 use Rattle.label.specs.Labels.{every, isLabel, labelByte, mostLabel}
 use Rattle.desk_text.specs.Grammar.{tab, fields, digit, spells, spelt, pastU32, noLeadingZero, isWidth}
 use Rattle.desk_text.specs.Input.{Line, field, own, iv, ownLine, ivLine}
-use Rattle.desk_text.specs.PieceLaws.{joined, joined-pieces, same-is}
+use Rattle.desk_text.specs.PieceLaws.{joined-pieces, same-is}
+use Rattle.desk_text.specs.Stated.{joined, OwnIs, IvIs}
 
 -- ## What they are made of
-
--- A good first line: `own`, the customer and the vehicle, with a tab between two.
-pub record OwnIs (l : Line) : Type 0 where
-  pub closed : l .closed ≡ true
-  pub made : l .bytes ≡ own ++ (tab ∷ (field 1 l ++ (tab ∷ field 2 l)))
-  pub customer : isLabel (field 1 l) ≡ true
-  pub vehicle : isLabel (field 2 l) ≡ true
-
--- A good later line: `iv`, a tab and a width.
-pub record IvIs (l : Line) : Type 0 where
-  pub closed : l .closed ≡ true
-  pub made : l .bytes ≡ iv ++ (tab ∷ field 1 l)
-  pub width : isWidth (field 1 l) ≡ true
 
 two : (fs : List (List ℕ)) → length fs ≡ 2 → fs ≡ getD fs 0 [] ∷ getD fs 1 [] ∷ []
 two [] h = absurd (omega arith)

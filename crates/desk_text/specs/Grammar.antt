@@ -1,3 +1,4 @@
+-- Definitions.
 -- The desk's text from the bytes up: what parts them, and what a width is. What a label is stands in the room `label`.
 use Prim.Native.Nat.{ℕ, _+_, _-_, _*_}
 use mathlib.Core.Bool.{Bool, true, false, cond, not, _&&_, _||_}

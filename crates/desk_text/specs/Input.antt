@@ -1,3 +1,4 @@
+-- Definitions.
 -- The desk's input: its lines, which of them is the first bad one, its labels and its widths.
 use Prim.Native.Nat.{ℕ, _+_}
 use mathlib.Core.Bool.{Bool, true, false, cond, _&&_}

@@ -1,3 +1,4 @@
+-- Laws.
 -- Where the labels of a good input stand in its bytes: the customer's from byte 4 on, the vehicle's after it and a tab.
 use Prim.Native.Nat.{ℕ, suc, _+_, _-_, _≤_, _<_}
 use mathlib.Core.Path.{_≡_, refl, sym, ap, _∙_}

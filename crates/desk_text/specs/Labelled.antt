@@ -1,3 +1,4 @@
+-- Laws.
 -- The lines of the desk's text: after the header each has six fields, and begins with this recording's own customer and
 -- vehicle; what follows them is told of the recording alone.
 use Prim.Native.Nat.{ℕ, zero, suc, _+_, _*_, _/_, _%_, _≤_}
@@ -17,7 +18,7 @@ use Rattle.desk_text.specs.Grammar.{newline, tab, pieces, fields}
 use Rattle.desk_text.specs.Input.{Line, shut, lines, firstBad, customerOf, vehicleOf, recordingOf}
 use Rattle.desk_text.specs.Numerals.{numeral, decimalIn, decimal, hexDigit, hex}
 use Rattle.desk_text.specs.Report.{w-customer, w-vehicle, w-at, w-kind, w-main, w-response, w-refused, lineOf, refusal, atOf, kindOf, mainOf, marked, responseOf, rowOf, rowsOf, answers, report, deskOf}
-use Rattle.desk_text.specs.PieceLaws.{joined}
+use Rattle.desk_text.specs.Stated.{joined, tellsOf, rowLine, rowLines, headerLine}
 use Rattle.desk_text.specs.GoodLines.{label-size}
 use Rattle.desk_text.specs.Bounds.{answers-few}
 use Rattle.desk_text.specs.Whole.{good-own, desk-good, desk-bad, recording-few}
@@ -183,23 +184,6 @@ response-plain (faulty number next) = refl
 response-plain (refused number) = refl
 
 -- ## The text's lines
-
--- what a line tells of an answer, whoever's the recording is
-abbrev pub tellsOf : Outcome → List (List ℕ)
-tellsOf x = decimal (atOf x) ∷ kindOf x ∷ mainOf x ∷ responseOf x ∷ []
-
--- the line of an answer, without its newline
-abbrev pub rowLine : List ℕ → List ℕ → Outcome → Line
-rowLine customer vehicle x = shut (joined tab (customer ∷ vehicle ∷ tellsOf x))
-
--- the lines of the answers
-abbrev pub rowLines : List ℕ → List ℕ → List Outcome → List Line
-rowLines customer vehicle [] = []
-rowLines customer vehicle (x ∷ xs) = rowLine customer vehicle x ∷ rowLines customer vehicle xs
-
--- the header, without its newline
-abbrev pub headerLine : Line
-headerLine = shut (joined tab (w-customer ∷ w-vehicle ∷ w-at ∷ w-kind ∷ w-main ∷ w-response ∷ []))
 
 module _ (customer vehicle : List ℕ) (c : isLabel customer ≡ true) (v : isLabel vehicle ≡ true) where
   row-plain : (x : Outcome) → All-plain (customer ∷ vehicle ∷ tellsOf x)

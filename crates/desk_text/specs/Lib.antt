@@ -1,11 +1,15 @@
+-- Definitions.
 pub mod Grammar
 pub mod Input
 pub mod Numerals
 pub mod Report
+pub mod Calls
+pub mod Example
+pub mod Stated
+-- Laws.
 pub mod PieceLaws
 pub mod GoodLines
 pub mod Enough
-pub mod Calls
 pub mod AnswerLaws
 pub mod NumeralLaws
 pub mod Bounds
@@ -14,4 +18,3 @@ pub mod LabelPlaces
 pub mod CallLaws
 pub mod Labelled
 pub mod Refused
-pub mod Example

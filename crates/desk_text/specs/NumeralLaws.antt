@@ -1,3 +1,4 @@
+-- Laws.
 -- How many digits a number and some bytes are printed with, and that a printed number is read as that number.
 use Prim.Native.Nat.{ℕ, zero, suc, _+_, _-_, _*_, _/_, _%_, _^_, _≤_, _<_}
 use mathlib.Core.Path.{_≡_, refl, _∙_}

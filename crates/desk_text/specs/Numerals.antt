@@ -1,3 +1,4 @@
+-- Definitions.
 -- Numbers and bytes as the desk prints them.
 use Prim.Native.Nat.{ℕ, zero, suc, _+_, _/_, _%_}
 use mathlib.Core.Bool.{cond}

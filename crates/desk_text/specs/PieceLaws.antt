@@ -1,9 +1,10 @@
+-- Laws.
 -- Laws of pieces and of lines: where the first one ends, that every text is its pieces put together again, and what it takes
 -- for a text to have one piece only.
 use Prim.Native.Nat.{ℕ, suc, _≤_, _<_}
 use mathlib.Core.Path.{_≡_, refl, _∙_}
 use mathlib.Core.Bool.{Bool, true, false, cond, _&&_, and-false}
-use mathlib.Core.List.{List, [], _∷_, _++_}
+use mathlib.Core.List.{List, [], _∷_}
 use native.Mathlib.Omega.{arith}
 use lib.Dec.{eqb}
 use lib.ListN.{length, take, drop}
@@ -13,6 +14,7 @@ use Rattle.laws.specs.Tests.{never}
 use Rattle.label.specs.Labels.{every}
 use Rattle.desk_text.specs.Grammar.{newline, longer, pieces, same}
 use Rattle.desk_text.specs.Input.{shut, unshut, onto, lines}
+use Rattle.desk_text.specs.Stated.{joined}
 
 -- ## The first piece
 
@@ -112,12 +114,6 @@ shape test b z (x ∷ xs) = go (eqb x b) refl (shape test b z xs)
     go false e (several p q ps s n) = several (x ∷ p) q ps (rw (e, s)) (later n)
 
 -- ## Put together again
-
--- pieces with b between them
-abbrev pub joined : ℕ → List (List ℕ) → List ℕ
-joined b [] = []
-joined b (p ∷ []) = p
-joined b (p ∷ q ∷ ps) = p ++ (b ∷ joined b (q ∷ ps))
 
 -- Every text is its pieces put together again.
 pub joined-pieces : (b : ℕ) (s : List ℕ) → joined b (pieces b s) ≡ s

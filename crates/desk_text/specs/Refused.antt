@@ -1,3 +1,4 @@
+-- Laws.
 -- Which texts are refusals: a text is the refusal at a line exactly where that line is the first bad one.
 use Prim.Native.Nat.{ℕ, _+_, _-_, _*_, _≤_, _<_}
 use mathlib.Core.Path.{_≡_, refl, sym, ap, _∙_}

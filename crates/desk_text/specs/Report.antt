@@ -1,3 +1,4 @@
+-- Definitions.
 -- The desk's output: the whole text as a function of the input's bytes.
 use Prim.Native.Nat.{ℕ, _+_}
 use mathlib.Core.Bool.{cond}

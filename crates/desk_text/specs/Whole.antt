@@ -1,3 +1,4 @@
+-- Laws.
 -- The whole text: what a good and a bad input come to, and how much there is of it.
 use Prim.Native.Nat.{ℕ, _+_, _-_, _≤_}
 use mathlib.Core.Path.{_≡_, refl}
@@ -13,7 +14,8 @@ use Rattle.desk_text.specs.Input.{Line, lines, field, ownLine, ivLine, i
 use Rattle.desk_text.specs.Numerals.{decimal}
 use Rattle.desk_text.specs.Report.{refusal, report, deskOf}
 use Rattle.desk_text.specs.Calls.{mostText}
-use Rattle.desk_text.specs.GoodLines.{OwnIs, own-is, label-size}
+use Rattle.desk_text.specs.GoodLines.{own-is, label-size}
+use Rattle.desk_text.specs.Stated.{OwnIs}
 use Rattle.desk_text.specs.NumeralLaws.{five-digits}
 use Rattle.desk_text.specs.Bounds.{report-size}
 

@@ -1,3 +1,4 @@
+-- Laws.
 -- Which messages the writer takes, in words: the rule of 37 turned round.
 use Prim.Native.Nat.{ℕ, _+_, _≤_}
 use mathlib.Core.Path.{_≡_, refl}
@@ -14,18 +15,7 @@ use Rattle.frame.specs.declared.Response.{Response}
 use Rattle.frame.specs.declared.Response.the-variants.{Without, Plain, Checked}
 use Rattle.frame.specs.Faults.{mostBytes}
 use Rattle.frame.specs.Writing.{responseSent, emptyResponse, badMessage}
-
--- a response is not empty where one is asked for
-abbrev pub SomeResponse : Response → List ℕ → Type 0
-SomeResponse Without rs = Unit {0}
-SomeResponse Plain rs = 1 ≤ length rs
-SomeResponse Checked rs = 1 ≤ length rs
-
--- A message is admitted: it has bytes, its response has bytes where one is asked for, and with checks there are at most 12.
-pub record Admitted (main : List ℕ) (kind : Response) (rs : List ℕ) : Type 0 where
-  pub some-main : 1 ≤ length main
-  pub some-response : SomeResponse kind rs
-  pub at-most : length (withCheck main) + length (responseSent kind rs) ≤ mostBytes
+use Rattle.frame.specs.WriteStated.{SomeResponse, Admitted}
 
 some : (n : ℕ) → eqb n 0 ≡ false → 1 ≤ n
 some n e = let h : ¬ (n ≡ 0) = eqb-false n 0 e in omega arith

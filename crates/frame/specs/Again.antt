@@ -1,3 +1,4 @@
+-- Laws.
 -- Written again: the parts of a good frame, without their checks, written at the nominal clock, are the recording's own
 -- intervals from the opening to the closing end, each at its symbol's nominal width.
 use Prim.Native.Nat.{ℕ, zero, suc, _+_, _-_, _≤_, _<_}
@@ -14,8 +15,7 @@ use Rattle.symbol.specs.declared.Symbol.the-variants.{Sof}
 use Rattle.symbol.specs.Clocks.{nominalClock}
 use Rattle.symbol.specs.Sending.{endWidth, sentOf}
 use Rattle.symbol.specs.SendingLaws.{nominal-good}
-use Rattle.checkbyte.specs.Register.{withCheck}
-use Rattle.checkbyte.specs.Differ.{Bytes}
+use Rattle.checkbyte.specs.Register.{withCheck, Bytes}
 use Rattle.frame.specs.declared.Response.{Response}
 use Rattle.frame.specs.declared.Response.the-variants.{Without, Plain, Checked}
 use Rattle.frame.specs.Signs.{shuts}
@@ -24,18 +24,20 @@ use Rattle.frame.specs.Line.{activeAt, symbolAt, single, endAt}
 use Rattle.frame.specs.Standing.{plain, checked, Standing, atSof, inMain, atNormalization, inResponse, counted, stands}
 use Rattle.frame.specs.Faults.{facts, mainBytes, responseBytes, mostBytes, checksOut}
 use Rattle.frame.specs.Reading.{Good, good, closed, faultAt, frameAt, reading}
-use Rattle.frame.specs.Writing.{mostWords, responseSent, frameWords, badMessage, words, writing}
-use Rattle.frame.specs.Decided.{Earliest, GoodAt, good-at}
+use Rattle.frame.specs.Writing.{mostWords, responseSent, frameWords, words, writing}
+use Rattle.frame.specs.Decided.{good-at}
+use Rattle.frame.specs.ReadStated.{Earliest, GoodAt, Complete, ChecksRight}
 use Rattle.frame.specs.Outcomes.{OpenedBy, opened-by}
-use Rattle.frame.specs.ByteLaws.{bits-back, check-back, withoutCheck, bytes-made}
+use Rattle.frame.specs.ByteLaws.{bits-back, check-back, bytes-made}
+use Rattle.frame.specs.Nominal.{withoutCheck, widthOf, nominalAt, nominalFrom, nominalIntervals, responseBare}
 use Rattle.frame.specs.Waves.{bitSymbols, frameSymbols}
-use Rattle.frame.specs.WaveLaws.{Carry, level-turns}
+use Rattle.frame.specs.WaveLaws.{level-turns}
+use Rattle.frame.specs.WriteStated.{Carry, Admitted, spelled, Sound, Reached, WrittenAgain}
 use Rattle.frame.specs.ShownLaws.{end-passive, end-shuts, counted-end}
-use Rattle.frame.specs.WordLaws.{widthOf, sentWidths, frame-sent}
-use Rattle.frame.specs.Parts.{Complete, ChecksRight, shut-complete}
-use Rattle.frame.specs.Admitted.{Admitted, admitted}
-use Rattle.frame.specs.Spelled.{spelled, Sound, Reached, reached}
-use Rattle.frame.specs.Nominal.{nominalAt, nominalFrom, nominalIntervals, responseBare}
+use Rattle.frame.specs.WordLaws.{sentWidths, frame-sent}
+use Rattle.frame.specs.Parts.{shut-complete}
+use Rattle.frame.specs.Admitted.{admitted}
+use Rattle.frame.specs.Spelled.{reached}
 
 -- ## The parts that were read
 
@@ -176,18 +178,6 @@ bare-bytes : (kind : Response) (bs : List ℕ) → Bytes bs → Bytes (responseB
 bare-bytes Without bs h = tt
 bare-bytes Plain bs h = h
 bare-bytes Checked bs h = take-bytes (length bs - 1) bs h
-
--- What is known of a good frame that was read: without their checks its parts are an admitted message, which with its checks is
--- those parts; and written at the nominal clock that message is the recording's intervals from opening to closing, each
--- replaced by its symbol's nominal width, both ends by 300, and so many words as these intervals are.
-pub record WrittenAgain (ws : List ℕ) (f : Good) : Type 0 where
-  pub is-admitted : badMessage (withoutCheck (f .main)) (f .kind) (responseBare (f .kind) (f .response)) ≡ false
-  pub main-bytes : Bytes (withoutCheck (f .main))
-  pub response-bytes : Bytes (responseBare (f .kind) (f .response))
-  pub main-again : withCheck (withoutCheck (f .main)) ≡ f .main
-  pub response-again : responseSent (f .kind) (responseBare (f .kind) (f .response)) ≡ f .response
-  pub same-words : frameWords nominalClock (withoutCheck (f .main)) (f .kind) (responseBare (f .kind) (f .response)) ≡ nominalIntervals ws (f .opening) (f .next)
-  pub as-many : length (frameWords nominalClock (withoutCheck (f .main)) (f .kind) (responseBare (f .kind) (f .response))) ≡ f .next - f .opening + 1
 
 again-at : (ws : List ℕ) (o k : ℕ) → Written ws o k → WrittenAgain ws (closed (stands (single ws) o k) o k)
 again-at ws o k w =

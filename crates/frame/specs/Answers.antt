@@ -1,3 +1,4 @@
+-- Definitions.
 -- The answer of the call that reads, set out as document 01 tells it: its number, and the values that go with it.
 use Prim.Native.Nat.{ℕ}
 use mathlib.Core.Path.{_≡_}

@@ -1,3 +1,4 @@
+-- Laws.
 -- One bit more: what it does to the bytes so far and to the bits that are left over.
 use Prim.Native.Nat.{ℕ, zero, suc, _+_, _-_, _*_, _%_, _≤_, _<_}
 use mathlib.Core.Path.{_≡_, refl, sym, ap, _∙_}
@@ -14,23 +15,7 @@ use Rattle.frame.specs.Bits.{value, byte, bytes}
 use Rattle.frame.specs.Signs.{bitsShown}
 use Rattle.frame.specs.Line.{Line, bitsFrom, bitsIn}
 use Rattle.frame.specs.Faults.{checksOut, whole}
-
--- the bits that make no whole byte yet
-unfoldable pub leftOver : List Bool → List Bool
-leftOver [] = []
-leftOver (a ∷ []) = a ∷ []
-leftOver (a ∷ b ∷ []) = a ∷ b ∷ []
-leftOver (a ∷ b ∷ c ∷ []) = a ∷ b ∷ c ∷ []
-leftOver (a ∷ b ∷ c ∷ d ∷ []) = a ∷ b ∷ c ∷ d ∷ []
-leftOver (a ∷ b ∷ c ∷ d ∷ e ∷ []) = a ∷ b ∷ c ∷ d ∷ e ∷ []
-leftOver (a ∷ b ∷ c ∷ d ∷ e ∷ f ∷ []) = a ∷ b ∷ c ∷ d ∷ e ∷ f ∷ []
-leftOver (a ∷ b ∷ c ∷ d ∷ e ∷ f ∷ g ∷ []) = a ∷ b ∷ c ∷ d ∷ e ∷ f ∷ g ∷ []
-leftOver (a ∷ b ∷ c ∷ d ∷ e ∷ f ∷ g ∷ h ∷ rest) = leftOver rest
-
--- a number with the bits behind it: a partial byte is kept as its bits behind a leading 1
-unfoldable pub behind : ℕ → List Bool → ℕ
-behind n [] = n
-behind n (b ∷ bits) = behind (n * 2 + value b) bits
+use Rattle.frame.specs.ReadStated.{leftOver, behind}
 
 -- One bit more behind them doubles the number and adds the bit.
 pub behind-more : (n : ℕ) (bits : List Bool) (b : Bool) → behind n (bits ++ (b ∷ [])) ≡ behind n bits * 2 + value b

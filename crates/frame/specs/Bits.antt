@@ -1,3 +1,4 @@
+-- Definitions.
 -- Bytes and the bits that carry them: document 01, "bytes with the high bit first". A bit is a Bool: true is a 1.
 use Prim.Native.Nat.{ℕ, _+_, _*_, _/_, _%_}
 use mathlib.Core.Bool.{Bool, true, false}

@@ -1,3 +1,4 @@
+-- Laws.
 -- Bytes as bits and back: nothing is lost either way.
 use Prim.Native.Nat.{ℕ, suc, _-_, _*_, _/_, _%_, _≤_, _<_}
 use mathlib.Core.Path.{_≡_, refl, sym, ap, ap₂, _∙_}
@@ -9,12 +10,12 @@ use lib.ListN.{length, getD, take}
 use lib.Seq.{take-suc, take-length}
 use borrow.Author.Tests.{eqb-true, eq-eqb}
 use Rattle.laws.specs.Each.{each}
-use Rattle.checkbyte.specs.Register.{checkOf, withCheck}
+use Rattle.checkbyte.specs.Register.{checkOf, withCheck, Bytes}
 use Rattle.checkbyte.specs.Residue.{check-lt}
-use Rattle.checkbyte.specs.Differ.{Bytes}
 use Rattle.frame.specs.Bits.{value, byte, bytes, odd, bitsOfByte, bitsOf}
 use Rattle.frame.specs.Faults.{checksOut}
 use Rattle.frame.specs.BitLaws.{value-small, checks-more}
+use Rattle.frame.specs.Nominal.{withoutCheck}
 
 -- ## Bytes to bits to bytes
 
@@ -110,10 +111,6 @@ bytes-made (a ∷ b ∷ c ∷ d ∷ e ∷ f ∷ g ∷ h ∷ rest) = (small, byte
     small = omega (arith, value-small a, value-small b, value-small c, value-small d, value-small e, value-small f, value-small g, value-small h)
 
 -- ## Check bytes
-
--- the bytes without the last one, which is their check byte
-abbrev pub withoutCheck : List ℕ → List ℕ
-withoutCheck bs = take (length bs - 1) bs
 
 -- A check byte that is put behind bytes is right.
 pub with-checks : (bs : List ℕ) → checksOut (withCheck bs) ≡ true

@@ -1,3 +1,4 @@
+-- Laws.
 -- "The earliest interval with a fault decides": what is known of the interval that an answer stands on, and which answer an
 -- interval gives.
 use Prim.Native.Nat.{ℕ, zero, suc, _+_, _-_, _<_}
@@ -10,12 +11,8 @@ use borrow.Author.Tests.{eqb-true, eqb-false, ne-eqb}
 use Rattle.laws.specs.Tests.{never}
 use Rattle.frame.specs.Line.{Line, endAt, Found, nowhere, at, firstIn}
 use Rattle.frame.specs.Reading.{Good, Outcome, good, unfinished, faulty, faultAt, decides, frameAt, decidedBy, decided}
-use Rattle.frame.specs.FirstLaws.{IsFirst, first-at, at-first, first-none}
-
--- No interval behind the opening o and before k is at fault, and none of them is an end.
-pub record Undecided (limit : ℕ) (l : Line) (o k : ℕ) : Type 0 where
-  pub no-fault : (j : ℕ) → o < j → j < k → faultAt limit l o j ≡ 0
-  pub no-end : (j : ℕ) → o < j → j < k → endAt l j ≡ false
+use Rattle.frame.specs.FirstLaws.{first-at, at-first, first-none}
+use Rattle.frame.specs.ReadStated.{IsFirst, Undecided, Earliest, GoodAt}
 
 nothing : (f : ℕ) (e : Bool) → (not (eqb f 0) || e) ≡ false → (f ≡ 0) × (e ≡ false)
 nothing f e h = go (eqb f 0) refl h
@@ -37,12 +34,6 @@ undecided limit l o k h =
 pub still : (limit : ℕ) (l : Line) (o k j : ℕ) → Undecided limit l o k → o < j → j < k → decides limit l o j ≡ false
 unfolding decides
 still limit l o k j u a b = rw (u .no-fault j a b, u .no-end j a b)
-
--- k lies behind the opening o and in the recording, and no interval before it decides the frame.
-pub record Earliest (limit : ℕ) (l : Line) (o k : ℕ) : Type 0 where
-  pub behind : o < k
-  pub inside : k < l .count
-  pub before : Undecided limit l o k
 
 found-earliest : (limit : ℕ) (l : Line) (o k : ℕ) → firstIn (decides limit l o) (o + 1) (l .count) ≡ at k → Earliest limit l o k
 found-earliest limit l o k h =
@@ -146,13 +137,6 @@ faulty-exactly limit l o n k h = (there, back)
 
     back : Earliest limit l o k × (faultAt limit l o k ≡ n) → decided limit l o ≡ faulty n k
     back a = rw (← (a .1)) (decides-faulty limit l o k (a .0) (rw (a .1) h))
-
--- What is known of a good frame: its closing end is the earliest interval that decides, and its values stand before it.
-pub record GoodAt (limit : ℕ) (l : Line) (o : ℕ) (f : Good) : Type 0 where
-  pub earliest : Earliest limit l o (f .next)
-  pub no-fault : faultAt limit l o (f .next) ≡ 0
-  pub end : endAt l (f .next) ≡ true
-  pub frame-is : f ≡ frameAt l o (f .next)
 
 -- All of that is known of a good frame.
 pub good-at : (limit : ℕ) (l : Line) (o : ℕ) (f : Good) → decided limit l o ≡ good f → GoodAt limit l o f

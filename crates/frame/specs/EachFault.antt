@@ -1,3 +1,4 @@
+-- Laws.
 -- Each fault in words of its own: what it takes for an interval to be at that fault, with what the rows judged before it leave
 -- open, and no more. The rows 16 to 19 are the ones among which the order matters; the others exclude each other by what is
 -- shown.
@@ -11,35 +12,14 @@ use lib.Dec.{eqb, ltb}
 use lib.ListN.{length}
 use borrow.Author.Tests.{eqb-true, eqb-false, eq-eqb, ne-eqb, ltb-true, ltb-false, lt-ltb, le-ltb, not-true}
 use Rattle.laws.specs.Tests.{never, both}
-use Rattle.frame.specs.Signs.{Sign, wrong, sof, bit, shut, wrongOf, isEod, isBit, isSof, shuts}
+use Rattle.frame.specs.Signs.{Sign, wrong, sof, bit, shut, isEod, isBit, isSof, shuts}
 use Rattle.frame.specs.Line.{Line}
 use Rattle.frame.specs.Standing.{Standing, counted, stands}
 use Rattle.frame.specs.Faults.{facts, mainBytes, responseBytes, partBytes, checksOut, whole, fault}
 use Rattle.frame.specs.Reading.{faulty, decided}
-use Rattle.frame.specs.Decided.{Earliest, faulty-exactly}
-use Rattle.frame.specs.Parts.{Complete, ChecksRight, and-false, shut-fault}
-
--- The interval that shows s and stands at st is at fault n, where a frame has at most `limit` bytes.
-pub data AtFaultOf (limit : ℕ) (st : Standing) (s : Sign) : ℕ → Type 0 where
-  -- 11, 13, 14: it is wrong by itself
-  wrongItself : {n : ℕ} → 0 < n → wrongOf s ≡ n → AtFaultOf limit st s n
-  -- 12: it is a bit at the SOF's place
-  bitForSof : facts st .sofPlace ≡ true → isBit s ≡ true → AtFaultOf limit st s 12
-  -- 15: it is a SOF, and not at the SOF's place
-  sofAgain : facts st .sofPlace ≡ false → isSof s ≡ true → AtFaultOf limit st s 15
-  -- 16: it is an EOD or end, after 1 to 7 bits of a byte
-  byteSplit : shuts s ≡ true → ¬ (length (facts (counted st s) .part) % 8 ≡ 0) → AtFaultOf limit st s 16
-  -- 17: it is an EOD or end, after whole bytes that are too few for their part
-  bytesFew : shuts s ≡ true → length (facts (counted st s) .part) % 8 ≡ 0 → length (partBytes (counted st s)) < facts (counted st s) .fewest
-      → AtFaultOf limit st s 17
-  -- 18: it is an EOD or end, after a complete part whose last byte is not the check byte that it should be
-  checkWrong : shuts s ≡ true → Complete (counted st s) → facts (counted st s) .hasCheck ≡ true → checksOut (partBytes (counted st s)) ≡ false
-      → AtFaultOf limit st s 18
-  -- 19: it is an EOD after a complete response whose check is right
-  eodAfter : isEod s ≡ true → facts (counted st s) .responding ≡ true → Complete (counted st s) → ChecksRight (counted st s) → AtFaultOf limit st s 19
-  -- 20: it is a bit of a byte, after as many whole bytes as a frame may have
-  pastLimit : isBit s ≡ true → facts st .sofPlace ≡ false → facts st .inPart ≡ true → length (mainBytes st ++ responseBytes st) ≡ limit
-      → AtFaultOf limit st s 20
+use Rattle.frame.specs.Decided.{faulty-exactly}
+use Rattle.frame.specs.ReadStated.{Earliest, Complete, AtFaultOf, wrongItself, bitForSof, sofAgain, byteSplit, bytesFew, checkWrong, eodAfter, pastLimit}
+use Rattle.frame.specs.Parts.{and-false, shut-fault}
 
 and-true : (b : Bool) → (b && true) ≡ b
 and-true true = refl

@@ -1,20 +1,16 @@
+-- Laws.
 -- The faults, row by row: reading answers a fault's number exactly when, at the earliest interval that decides the frame,
 -- that fault's row holds and no row that is judged before it does.
-use Prim.Native.Nat.{ℕ, _≤_, _<_}
+use Prim.Native.Nat.{ℕ, _<_}
 use mathlib.Core.Path.{_≡_, refl, _∙_}
 use mathlib.Core.Logic.{_↔_}
 use Rattle.frame.specs.Line.{Line}
 use Rattle.frame.specs.Standing.{stands}
 use Rattle.frame.specs.Reading.{faulty, decided, readOn}
-use Rattle.frame.specs.Rows.{FirstFault}
 use Rattle.frame.specs.RowLaws.{fault-is}
-use Rattle.frame.specs.Outcomes.{Opens, opened-reading, OpenedBy, opened-by}
-use Rattle.frame.specs.Decided.{Earliest, faulty-exactly}
-
--- k is the earliest interval that decides the frame opened at o; there row n holds, and no row that is judged before it.
-pub record AtFault (limit : ℕ) (l : Line) (o n k : ℕ) : Type 0 where
-  pub earliest : Earliest limit l o k
-  pub first-row : FirstFault n limit (stands l o k) (l .shows k)
+use Rattle.frame.specs.Outcomes.{opened-reading, OpenedBy, opened-by}
+use Rattle.frame.specs.Decided.{faulty-exactly}
+use Rattle.frame.specs.ReadStated.{AtFault, ReadsFault}
 
 -- The law of every fault at once: 11 to 20 are its instances.
 pub fault-exactly : (limit : ℕ) (l : Line) (o n k : ℕ) → 0 < n → (decided limit l o ≡ faulty n k) ↔ AtFault limit l o n k
@@ -26,13 +22,6 @@ fault-exactly limit l o n k h =
     )
 
 -- ## From the call's own arguments
-
--- Reading from p, with bytes enough lent: the frame that opens there is at fault at k, by row n.
-pub record ReadsFault (limit : ℕ) (l : Line) (p lent n k : ℕ) : Type 0 where
-  pub enough : limit ≤ lent
-  pub opening : ℕ
-  pub opens : Opens l p opening
-  pub at-fault : AtFault limit l opening n k
 
 -- The call answers fault n at k exactly when that is so.
 pub reading-fault : (limit : ℕ) (l : Line) (p lent n k : ℕ) → 0 < n → (readOn limit l p lent ≡ faulty n k) ↔ ReadsFault limit l p lent n k

@@ -1,3 +1,4 @@
+-- Definitions.
 -- The faults of document 01's table "What reading answers", a line a row.
 use Prim.Native.Nat.{ℕ, _+_, _-_, _%_}
 use mathlib.Core.Bool.{Bool, true, false, cond, not, _&&_}

@@ -1,3 +1,4 @@
+-- Laws.
 -- What is known of a first place: that it is the first, that there is none, and what one place more gives.
 use Prim.Native.Nat.{ℕ, zero, suc, _+_, _-_, _≤_, _<_}
 use mathlib.Core.Path.{_≡_, refl, sym, ap, _∙_}
@@ -6,13 +7,7 @@ use mathlib.Core.Logic.{_⊎_, inl, inr}
 use native.Mathlib.Omega.{arith}
 use native.Mathlib.Nat.{add-zero, eq-or-lt-of-le}
 use Rattle.frame.specs.Line.{Found, nowhere, at, first, firstIn}
-
--- k is the first of the n places from i on at which the test holds
-pub record IsFirst (test : ℕ → Bool) (i n k : ℕ) : Type 0 where
-  pub from : i ≤ k
-  pub before : k < i + n
-  pub holds : test k ≡ true
-  pub none-earlier : (j : ℕ) → i ≤ j → j < k → test j ≡ false
+use Rattle.frame.specs.ReadStated.{IsFirst}
 
 -- no place is both found and nowhere
 pub lost : {A : Type 0} {f : Found} {k : ℕ} → f ≡ nowhere → f ≡ at k → A

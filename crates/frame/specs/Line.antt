@@ -1,3 +1,4 @@
+-- Definitions.
 -- A recording as document 01 looks at it: the symbol at each place, what the place shows, and the first place of which
 -- something is true.
 use Prim.Native.Nat.{ℕ, zero, suc, _+_, _-_, _%_}

@@ -1,3 +1,4 @@
+-- Laws.
 -- A recording that goes on: what comes after the intervals that were read never changes a frame or a fault that they hold.
 use Prim.Native.Nat.{ℕ, zero, suc, _+_, _-_, _≤_, _<_}
 use mathlib.Core.Path.{_≡_, refl, sym, ap, subst, _∙_}
@@ -10,8 +11,9 @@ use Rattle.frame.specs.Line.{symbolAt, Line, single, endAt, Found, nowhe
 use Rattle.frame.specs.Standing.{stands}
 use Rattle.frame.specs.StandingLaws.{stands-sof, stands-next}
 use Rattle.frame.specs.Reading.{faultAt, decides, decidedBy, decided, readOn}
-use Rattle.frame.specs.FirstLaws.{IsFirst, first-at, at-first}
-use Rattle.frame.specs.Outcomes.{Opens, opened-reading, goesOn, OpenedBy, opened-by}
+use Rattle.frame.specs.FirstLaws.{first-at, at-first}
+use Rattle.frame.specs.ReadStated.{IsFirst, Opens, goesOn}
+use Rattle.frame.specs.Outcomes.{opened-reading, OpenedBy, opened-by}
 
 -- Where two tests agree, the first place is the same.
 pub first-same : (t u : ℕ → Bool) (i n : ℕ) → ((j : ℕ) → i ≤ j → j < i + n → t j ≡ u j) → first t i n ≡ first u i n

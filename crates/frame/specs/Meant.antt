@@ -1,3 +1,4 @@
+-- Definitions.
 -- What a test means: the test says true exactly when a proposition holds.
 use Prim.Native.Nat.{ℕ, _<_}
 use mathlib.Core.Path.{_≡_, refl}

@@ -1,3 +1,4 @@
+-- Laws.
 -- What stands before the opening never matters: two recordings that agree from their openings on are read alike, the places
 -- moved.
 use Prim.Native.Nat.{ℕ, zero, suc, _+_, _-_, _%_, _≤_}
@@ -14,20 +15,8 @@ use Rattle.frame.specs.Standing.{counted, stands}
 use Rattle.frame.specs.StandingLaws.{stands-sof, stands-next}
 use Rattle.frame.specs.Faults.{mostBytes}
 use Rattle.frame.specs.Reading.{Outcome, good, quiet, unfinished, faulty, refused, closed, faultAt, decides, decidedBy, decided, readOn, reading}
-use Rattle.frame.specs.FirstLaws.{IsFirst, first-at}
-
--- The place k, counted from o, as it is counted from o'.
-abbrev pub shifted : (o o' k : ℕ) → ℕ
-shifted o o' k = o' + (k - o)
-
--- An outcome of reading from p' where the opening stands at o', from one where it stands at o.
-abbrev pub movedOutcome : (p' o o' : ℕ) → Outcome → Outcome
-movedOutcome p' o o' (good f) =
-    good (record { main = f .main; response = f .response; kind = f .kind; opening = shifted o o' (f .opening); next = shifted o o' (f .next) })
-movedOutcome p' o o' (quiet next) = quiet p'
-movedOutcome p' o o' (unfinished opening) = unfinished (shifted o o' opening)
-movedOutcome p' o o' (faulty number next) = faulty number (shifted o o' next)
-movedOutcome p' o o' (refused number) = refused number
+use Rattle.frame.specs.FirstLaws.{first-at}
+use Rattle.frame.specs.ReadStated.{IsFirst, shifted, movedOutcome}
 
 -- a place that a search found, moved along
 abbrev movedFound : (o o' : ℕ) → Found → Found

@@ -1,3 +1,4 @@
+-- Definitions.
 -- A recording's intervals, each replaced by its symbol's nominal width: what demand 2's second theorem speaks of.
 use Prim.Native.Nat.{ℕ, zero, suc, _+_, _-_}
 use mathlib.Core.Bool.{cond}
@@ -7,8 +8,18 @@ use Rattle.symbol.specs.Sending.{endWidth, sentOf}
 use Rattle.frame.specs.declared.Response.{Response}
 use Rattle.frame.specs.declared.Response.the-variants.{Without, Plain, Checked}
 use Rattle.frame.specs.Line.{activeAt, symbolAt, single, endAt}
-use Rattle.frame.specs.ByteLaws.{withoutCheck}
-use Rattle.frame.specs.WordLaws.{widthOf}
+use lib.ListN.{take, length}
+use Rattle.symbol.specs.declared.Sent.{Sent}
+use Rattle.symbol.specs.declared.Sent.the-variants.{For, Never}
+
+-- the bytes without the last one, which is their check byte
+abbrev pub withoutCheck : List ℕ → List ℕ
+withoutCheck bs = take (length bs - 1) bs
+
+-- the width of what is sent; 0 where nothing is, which no frame has
+abbrev pub widthOf : Sent → ℕ
+widthOf (For w) = w .0
+widthOf Never = 0
 
 -- the nominal width of the interval at j: 300 for an end, else what the nominal clock sends for its symbol at its level
 unfoldable pub nominalAt : List ℕ → ℕ → ℕ

@@ -1,3 +1,4 @@
+-- Laws.
 -- What a call that reads comes to, case by case: the two refusals, quiet, or what the opened frame is decided to be.
 use Prim.Native.Nat.{ℕ, _+_, _-_, _≤_, _<_}
 use mathlib.Core.Path.{_≡_, refl}
@@ -7,22 +8,9 @@ use lib.Dec.{leb, ltb}
 use borrow.Author.Tests.{ltb-true, ltb-false, leb-false, le-ltb, lt-leb}
 use Rattle.laws.specs.Tests.{never}
 use Rattle.frame.specs.Line.{Line, endAt, Found, nowhere, at, opening}
-use Rattle.frame.specs.Reading.{Outcome, good, quiet, unfinished, faulty, refused, decided, readBy, readOn}
-use Rattle.frame.specs.FirstLaws.{IsFirst, first-at, at-first}
-
--- The opening of reading from p is at o, and at least one interval follows it.
-pub record Opens (l : Line) (p o : ℕ) : Type 0 where
-  pub from : p ≤ o
-  pub end : endAt l o ≡ true
-  pub none-before : (j : ℕ) → p ≤ j → j < o → endAt l j ≡ false
-  pub followed : o + 1 < l .count
-
--- what a call comes to, with what has to be so of its arguments
-pub data Comes (limit : ℕ) (l : Line) (p lent : ℕ) : Outcome → Type 0 where
-  isPast : l .count < p → Comes limit l p lent (refused 31)
-  isShort : p ≤ l .count → lent < limit → Comes limit l p lent (refused 32)
-  isQuiet : p ≤ l .count → limit ≤ lent → Comes limit l p lent (quiet p)
-  isOpened : {o : ℕ} → p ≤ l .count → limit ≤ lent → Opens l p o → Comes limit l p lent (decided limit l o)
+use Rattle.frame.specs.Reading.{Outcome, quiet, refused, decided, readBy, readOn}
+use Rattle.frame.specs.FirstLaws.{first-at, at-first}
+use Rattle.frame.specs.ReadStated.{IsFirst, Opens, Comes, isPast, isShort, isQuiet, isOpened, goesOn}
 
 module _ (limit : ℕ) (l : Line) (p lent : ℕ) where
   opening-opens : (o : ℕ) → opening l p ≡ at o → o + 1 < l .count → Opens l p o
@@ -62,14 +50,6 @@ module _ (limit : ℕ) (l : Line) (p lent : ℕ) where
         none-earlier = op .none-before;
       }) in
       rw (le-ltb (l .count) p (omega (arith, op .from, op .followed)), le-ltb lent limit h, found, lt-leb (l .count) (o + 1) (op .followed))
-
--- the answer is a frame or a fault, from whose next position one reads on
-abbrev pub goesOn : Outcome → Bool
-goesOn (good f) = true
-goesOn (quiet next) = false
-goesOn (unfinished opening) = false
-goesOn (faulty number next) = true
-goesOn (refused number) = false
 
 -- What is known of a call that answers a frame or a fault: where the frame opens, and that it is decided so.
 pub record OpenedBy (limit : ℕ) (l : Line) (p lent : ℕ) (x : Outcome) : Type 0 where

@@ -1,3 +1,4 @@
+-- Laws.
 -- The parts of a frame: bits go in without a fault as long as there is room, and an EOD or end closes a complete part.
 use Prim.Native.Nat.{ℕ, _+_, _*_, _%_, _≤_, _<_}
 use mathlib.Core.Path.{_≡_, refl, ap, _∙_}
@@ -8,8 +9,7 @@ use lib.Dec.{eqb, ltb}
 use lib.ListN.{length, length-append}
 use borrow.Author.Tests.{eq-eqb, ne-eqb, le-ltb}
 use Rattle.laws.specs.Tests.{never}
-use Rattle.checkbyte.specs.Register.{withCheck}
-use Rattle.checkbyte.specs.Differ.{Bytes}
+use Rattle.checkbyte.specs.Register.{withCheck, Bytes}
 use Rattle.frame.specs.Signs.{Sign, wrong, sof, bit, shut, isEod, shuts}
 use Rattle.frame.specs.Bits.{bytes, bitsOf}
 use Rattle.frame.specs.Standing.{plain, checked, Standing, atSof, inMain, atNormalization, inResponse, withBits, counted, moved}
@@ -19,17 +19,9 @@ use Rattle.frame.specs.Meant.{stable-equal}
 use Rattle.frame.specs.RowLaws.{no-fault-is}
 use Rattle.frame.specs.ByteLaws.{bytes-few, bytes-back, bits-length, with-checks, with-bytes}
 use Rattle.frame.specs.Passing.{Passes, stay, pass, Closes, close, on}
+use Rattle.frame.specs.ReadStated.{Complete, ChecksRight}
 
 -- ## What closes a part
-
--- The bits of a part are whole bytes, and enough of them.
-pub record Complete (st : Standing) : Type 0 where
-  pub whole-bytes : length (facts st .part) % 8 ≡ 0
-  pub enough : facts st .fewest ≤ length (partBytes st)
-
--- They end with the right check byte, where the part has one.
-abbrev pub ChecksRight : Standing → Type 0
-ChecksRight st = (facts st .hasCheck && not (checksOut (partBytes st))) ≡ false
 
 -- A test that fails makes both fail.
 pub and-false : (b : Bool) → (b && false) ≡ false

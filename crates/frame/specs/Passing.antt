@@ -1,3 +1,4 @@
+-- Laws.
 -- Signs that decide nothing, and signs that close a frame: how the standing moves along them, and what the line that shows
 -- them is decided to be.
 use Prim.Native.Nat.{ℕ, suc, _+_, _-_, _≤_, _<_}

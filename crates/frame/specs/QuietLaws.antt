@@ -1,3 +1,4 @@
+-- Laws.
 -- When reading is quiet and when it is unfinished: rows 1 and 2 of the table "What reading answers", each exactly when.
 use Prim.Native.Nat.{ℕ, _≤_}
 use mathlib.Core.Path.{_≡_, refl, sym, ap, _∙_}
@@ -6,20 +7,9 @@ use native.Mathlib.Omega.{arith}
 use Rattle.laws.specs.Tests.{never}
 use Rattle.frame.specs.Line.{Line}
 use Rattle.frame.specs.Reading.{Outcome, good, quiet, unfinished, faulty, refused, decided, readOn}
-use Rattle.frame.specs.Decided.{Undecided, Decision, isUnfinished, isGood, isFaulty, decision}
-use Rattle.frame.specs.Outcomes.{Opens, Comes, isPast, isShort, isQuiet, isOpened, comes, opened-reading}
-
--- 1: "quiet: no opening, or no interval after it", where neither 31 nor 32 applies
-pub record Silent (limit : ℕ) (l : Line) (p lent : ℕ) : Type 0 where
-  pub inside : p ≤ l .count
-  pub enough : limit ≤ lent
-  pub none-opens : (o : ℕ) → ¬ (Opens l p o)
-
--- 2: "at least one interval follows the opening, none is at fault, none closes the frame"
-pub record Unclosed (limit : ℕ) (l : Line) (p lent o : ℕ) : Type 0 where
-  pub enough : limit ≤ lent
-  pub opens : Opens l p o
-  pub none-decides : Undecided limit l o (l .count)
+use Rattle.frame.specs.Decided.{Decision, isUnfinished, isGood, isFaulty, decision}
+use Rattle.frame.specs.ReadStated.{Undecided, Opens, Comes, isPast, isShort, isQuiet, isOpened, Silent, Unclosed}
+use Rattle.frame.specs.Outcomes.{comes, opened-reading}
 
 -- the row of an outcome, where it is one of these two
 abbrev row : Outcome → ℕ

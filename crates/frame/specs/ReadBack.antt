@@ -1,3 +1,4 @@
+-- Laws.
 -- Read-back: a frame that stands on the line, with anything before it and anything behind it, is read as the message that it
 -- carries, whatever its widths are inside the receiving windows.
 use Prim.Native.Nat.{ℕ, _+_, _-_, _%_, _≤_, _<_}
@@ -11,8 +12,7 @@ use Rattle.symbol.specs.declared.Symbol.{Symbol}
 use Rattle.symbol.specs.declared.Symbol.the-variants.{Bit0, Bit1, Eod}
 use Rattle.symbol.specs.Clocks.{nominalClock}
 use Rattle.symbol.specs.Classes.{endOf}
-use Rattle.checkbyte.specs.Register.{withCheck}
-use Rattle.checkbyte.specs.Differ.{Bytes}
+use Rattle.checkbyte.specs.Register.{withCheck, Bytes}
 use Rattle.frame.specs.declared.Response.{Response}
 use Rattle.frame.specs.declared.Response.the-variants.{Without, Plain, Checked}
 use Rattle.frame.specs.Bits.{bytes, bitsOf}
@@ -23,14 +23,16 @@ use Rattle.frame.specs.Faults.{mostBytes, fault}
 use Rattle.frame.specs.Reading.{good, closed, readOn, reading}
 use Rattle.frame.specs.Writing.{mostWords, frameSent, badMessage}
 use Rattle.frame.specs.WidthLaws.{admitted-words}
-use Rattle.frame.specs.Outcomes.{Opens, opened-reading}
+use Rattle.frame.specs.Outcomes.{opened-reading}
+use Rattle.frame.specs.ReadStated.{Opens, Complete, ChecksRight}
 use Rattle.frame.specs.ByteLaws.{bytes-back, bits-length, with-bytes}
 use Rattle.frame.specs.Waves.{bitSymbols, byteSymbols, responseSymbols, frameSymbols, FrameWave}
-use Rattle.frame.specs.WaveLaws.{Stand, Carry, Shows, stands-behind, stand-append, wave-carries, wave-length, bit-shown, carry-shows, shows-append}
+use Rattle.frame.specs.WaveLaws.{Stand, Shows, stands-behind, stand-append, wave-carries, wave-length, bit-shown, carry-shows, shows-append}
+use Rattle.frame.specs.WriteStated.{Carry, Admitted}
 use Rattle.frame.specs.ShownLaws.{end-width, end-shuts}
 use Rattle.frame.specs.Passing.{Closes, on, passes-closes, decides-it}
-use Rattle.frame.specs.Parts.{Complete, ChecksRight, sealed-complete, sealed-right, plain-complete, spells, part-closes, part-passes}
-use Rattle.frame.specs.Admitted.{Admitted, admitted}
+use Rattle.frame.specs.Parts.{sealed-complete, sealed-right, plain-complete, spells, part-closes, part-passes}
+use Rattle.frame.specs.Admitted.{admitted}
 use Rattle.frame.specs.WordLaws.{bytes-length, words-count}
 
 -- ## A message's symbols

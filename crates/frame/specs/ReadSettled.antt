@@ -1,3 +1,4 @@
+-- Laws.
 -- Reading is settled: the promise of the call leaves one answer and one state of the lent bytes, and its two refusals come
 -- exactly when document 01 says so.
 use Prim.Native.Nat.{ℕ, _≤_, _<_}
@@ -22,7 +23,8 @@ use Rattle.frame.specs.Refusals.{TurnedAway}
 use Rattle.frame.specs.ShownLaws.{wrong-small}
 use Rattle.frame.specs.RowLaws.{fault-number}
 use Rattle.frame.specs.Decided.{Decision, isUnfinished, isGood, isFaulty, decision}
-use Rattle.frame.specs.Outcomes.{Comes, isPast, isShort, isQuiet, isOpened, comes}
+use Rattle.frame.specs.Outcomes.{comes}
+use Rattle.frame.specs.ReadStated.{Comes, isPast, isShort, isQuiet, isOpened}
 
 -- ## One answer
 

@@ -1,3 +1,4 @@
+-- Definitions.
 -- What reading answers, in document 01's words. Nothing here goes through a recording but the search for a first place.
 use Prim.Native.Nat.{ℕ, _+_}
 use mathlib.Core.Bool.{Bool, cond, not, _||_}

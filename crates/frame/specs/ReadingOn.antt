@@ -1,3 +1,4 @@
+-- Definitions.
 -- Reading on: each answer that is a frame or a fault has a next position further on, so that reading on from next positions
 -- ends; and the end that closes a frame opens the next one.
 use Prim.Native.Nat.{ℕ, zero, suc, _+_, _-_, _≤_, _<_}
@@ -13,8 +14,9 @@ use Rattle.frame.specs.Reading.{Good, Outcome, good, decided, readOn}
 use Rattle.frame.specs.Faults.{mostBytes}
 use Rattle.frame.specs.Answers.{tells}
 use Rattle.frame.specs.FirstLaws.{at-first}
-use Rattle.frame.specs.Decided.{Decision, isUnfinished, isGood, isFaulty, decision, GoodAt, good-at}
-use Rattle.frame.specs.Outcomes.{Comes, isPast, isShort, isQuiet, isOpened, comes, goesOn, OpenedBy, opened-by}
+use Rattle.frame.specs.Decided.{Decision, isUnfinished, isGood, isFaulty, decision, good-at}
+use Rattle.frame.specs.ReadStated.{GoodAt, Comes, isPast, isShort, isQuiet, isOpened, goesOn}
+use Rattle.frame.specs.Outcomes.{comes, OpenedBy, opened-by}
 
 -- ## Progress
 

@@ -1,3 +1,4 @@
+-- Definitions.
 -- What it means that a call is turned away exactly when a rule of document 01 holds.
 use Prim.Native.Nat.{ℕ}
 use mathlib.Core.Path.{_≡_}

@@ -1,3 +1,4 @@
+-- Laws.
 -- Both theorems of demand 2 together: a good frame that was read, written again at the nominal clock, is read as the same frame.
 use Prim.Native.Nat.{ℕ, _+_, _-_, _%_, _≤_}
 use mathlib.Core.Path.{_≡_, ap}
@@ -8,14 +9,11 @@ use Rattle.symbol.specs.Clocks.{nominalClock}
 use Rattle.symbol.specs.SendingLaws.{nominal-good}
 use Rattle.frame.specs.Faults.{mostBytes}
 use Rattle.frame.specs.Reading.{Good, good, reading}
-use Rattle.frame.specs.ByteLaws.{withoutCheck}
-use Rattle.frame.specs.Nominal.{nominalIntervals, responseBare}
+use Rattle.frame.specs.Nominal.{withoutCheck, nominalIntervals, responseBare}
 use Rattle.frame.specs.WrittenBack.{reads-written}
-use Rattle.frame.specs.Again.{WrittenAgain, written-again}
-
--- the same frame, opened at a place of its own
-abbrev pub putAt : Good → ℕ → Good
-putAt f o = record { main = f .main; response = f .response; kind = f .kind; opening = o; next = o + (f .next - f .opening) }
+use Rattle.frame.specs.Again.{written-again}
+use Rattle.frame.specs.WriteStated.{WrittenAgain}
+use Rattle.frame.specs.ReadStated.{putAt}
 
 -- A good frame's intervals at nominal widths, put anywhere on a line, are read as the same parts and the same kind of response,
 -- over as many intervals.

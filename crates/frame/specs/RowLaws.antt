@@ -1,3 +1,4 @@
+-- Laws.
 -- The fault of an interval is the number of the first row that holds of it.
 use Prim.Native.Nat.{ℕ, _≤_, _<_}
 use mathlib.Core.Path.{_≡_, refl, sym}
@@ -12,6 +13,7 @@ use Rattle.frame.specs.Signs.{Sign, wrongOf}
 use Rattle.frame.specs.Standing.{Standing}
 use Rattle.frame.specs.Faults.{fault}
 use Rattle.frame.specs.Rows.{Row, wrongItself, rows, firstRow, FirstToHold, FirstFault}
+use Rattle.frame.specs.ReadStated.{NoneHolds}
 
 -- A fault's number is that of what is wrong by itself, and otherwise of the first row.
 pub fault-first : (limit : ℕ) (st : Standing) (s : Sign) → fault limit st s ≡ cond (wrongItself s .says) (wrongOf s) (firstRow (rows limit st s))
@@ -52,11 +54,6 @@ first-is n (r ∷ rs) h a = go (eqb n (r .number)) (r .when .says) refl refl (fi
         (λ f. absurd (absent n rs h (rw (eqb-true n (r .number) e) (parts .0)) f), λ f. never (r .when .means .1 f) s)
     go false true e s ih = (λ f. absurd (eqb-false n (r .number) e (sym f)), λ f. absurd (f .0 (r .when .means .0 s)))
     go false false e s ih = (λ f. (λ x. never (r .when .means .1 x) s, ih .0 f), λ f. ih .1 (f .1))
-
--- no row holds
-abbrev pub NoneHolds : List Row → Type 0
-NoneHolds [] = Unit {0}
-NoneHolds (r ∷ rs) = (¬ (r .when .Holds)) × NoneHolds rs
 
 none-is : (rs : List Row) → without 0 rs ≡ true → (firstRow rs ≡ 0) ↔ NoneHolds rs
 none-is [] w = (λ e. tt, λ h. refl)

@@ -1,3 +1,4 @@
+-- Definitions.
 -- The rows 11 to 20 of document 01's table "What reading answers" as propositions, in the order in which they are judged at
 -- one interval.
 use Prim.Native.Nat.{ℕ, _%_}

@@ -1,3 +1,4 @@
+-- Laws.
 -- What the line of document 01 shows, by its widths: which intervals are ends, and which are wrong by themselves.
 use Prim.Native.Nat.{ℕ, _≤_, _<_}
 use mathlib.Core.Path.{_≡_, refl, sym, ap, _∙_}
@@ -17,6 +18,7 @@ use Rattle.frame.specs.Signs.{shut, wrongOf, isEnd}
 use Rattle.frame.specs.Line.{activeAt, symbolAt, signOf, single, endAt}
 use Rattle.frame.specs.Standing.{Standing, counted}
 use Rattle.frame.specs.StandingLaws.{counted-shut}
+use Rattle.frame.specs.ReadStated.{WrongWidth, isNoise, isBreak, isStuck}
 
 -- ## Ends
 
@@ -62,12 +64,6 @@ pub counted-end : (st : Standing) (s : Symbol) → isEnd (signOf s) ≡ true →
 counted-end st s e = ap (counted st) (end-shuts s e) ∙ counted-shut st false
 
 -- ## Wrong by themselves
-
--- the widths that are wrong by themselves, and the number of each: 11 noise, 13 a break, 14 a stuck line
-pub data WrongWidth (active : Bool) (w : ℕ) : ℕ → Type 0 where
-  isNoise : Window active Noise w → WrongWidth active w 11
-  isBreak : Window active Break w → WrongWidth active w 13
-  isStuck : Window active Stuck w → WrongWidth active w 14
 
 -- An interval shows what is wrong by itself, with number n, exactly where its width is of those.
 pub shows-wrong : (active : Bool) (w n : ℕ) → 0 < n → (wrongOf (signOf (classOf active w)) ≡ n) ↔ WrongWidth active w n

@@ -1,3 +1,4 @@
+-- Definitions.
 -- What an interval shows inside a frame, whatever the line: the frame layer sees no widths.
 use Prim.Native.Nat.{ℕ}
 use mathlib.Core.Bool.{Bool, true, false, not, _||_}

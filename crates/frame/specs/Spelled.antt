@@ -1,3 +1,4 @@
+-- Laws.
 -- What a standing says of the places before it: as long as nothing decides, the symbols after the opening are those that the
 -- standing spells, and what it holds is sound.
 use Prim.Native.Nat.{ℕ, zero, suc, _+_, _-_, _≤_, _<_}
@@ -14,7 +15,7 @@ use Rattle.symbol.specs.declared.Symbol.{Symbol}
 use Rattle.symbol.specs.declared.Symbol.the-variants.{Noise, Bit0, Bit1, Eod, Sof, Eof, Ifs, Break, Stuck}
 use Rattle.symbol.specs.Classes.{Window, classOf}
 use Rattle.symbol.specs.ClassLaws.{class-in}
-use Rattle.symbol.specs.SendingLaws.{bitSymbol}
+use Rattle.symbol.specs.Sending.{bitSymbol}
 use Rattle.frame.specs.Signs.{sof, bit, shut, isEnd}
 use Rattle.frame.specs.Bits.{bytes}
 use Rattle.frame.specs.Line.{activeAt, symbolAt, signOf, single, endAt}
@@ -23,31 +24,12 @@ use Rattle.frame.specs.Faults.{facts, mainBytes, responseBytes, fault}
 use Rattle.frame.specs.Reading.{faultAt}
 use Rattle.frame.specs.BitLaws.{OneMore, isLeft, isWhole, one-more}
 use Rattle.frame.specs.StandingLaws.{stands-sof, stands-next}
-use Rattle.frame.specs.Decided.{Undecided}
+use Rattle.frame.specs.ReadStated.{Undecided}
 use Rattle.frame.specs.Waves.{bitSymbols}
-use Rattle.frame.specs.WaveLaws.{Carry, carry-append, level-turns, bit-shown}
-use Rattle.frame.specs.Parts.{Complete, ChecksRight, shut-complete}
+use Rattle.frame.specs.WaveLaws.{carry-append, level-turns, bit-shown}
+use Rattle.frame.specs.Parts.{shut-complete}
 use Rattle.frame.specs.RowLaws.{no-fault-is}
-
--- "short: no check byte; long: check byte last": the normalization bit of a response
-abbrev pub normalization : Kind → Symbol
-normalization plain = Bit1
-normalization checked = Bit0
-
--- the symbols between the opening and a place, from where the place stands
-abbrev pub spelled : Standing → List Symbol
-spelled atSof = []
-spelled (inMain m) = Sof ∷ bitSymbols m
-spelled (atNormalization m) = Sof ∷ (bitSymbols m ++ (Eod ∷ []))
-spelled (inResponse k m r) = Sof ∷ (bitSymbols m ++ (Eod ∷ normalization k ∷ bitSymbols r))
-
--- What holds of a standing that was reached without a fault, at a place of this level: the SOF and the normalization bit are
--- active, a main part that an EOD has closed is complete and its check right, and there are no more bytes than a frame may have.
-abbrev pub Sound : (limit : ℕ) → Bool → Standing → Type 0
-Sound limit active atSof = active ≡ true
-Sound limit active (inMain m) = length (bytes m) ≤ limit
-Sound limit active (atNormalization m) = (active ≡ true) × (Complete (inMain m) × (ChecksRight (inMain m) × (length (bytes m) ≤ limit)))
-Sound limit active (inResponse k m r) = Complete (inMain m) × (ChecksRight (inMain m) × (length (bytes m) + length (bytes r) ≤ limit))
+use Rattle.frame.specs.WriteStated.{normalization, spelled, Sound, Reached}
 
 -- ## One symbol further
 
@@ -149,13 +131,6 @@ eod-passive ws j e = go (activeAt j) refl (class-in (activeAt j) (getD ws j 0))
     go : (b : Bool) → activeAt j ≡ b → Window (activeAt j) (classOf (activeAt j) (getD ws j 0)) (getD ws j 0) → activeAt j ≡ false
     go true p w = absurd (rw (e, p) at w)
     go false p w = p
-
--- Place k, with nothing decided before it: the places between the opening o and k carry what the standing spells, and all is
--- sound.
-pub record Reached (limit : ℕ) (ws : List ℕ) (o k : ℕ) : Type 0 where
-  pub count : o + 1 + length (spelled (stands (single ws) o k)) ≡ k
-  pub carry : Carry ws (o + 1) (spelled (stands (single ws) o k))
-  pub sound : Sound limit (activeAt k) (stands (single ws) o k)
 
 sof-reached : (limit : ℕ) (ws : List ℕ) (o : ℕ) → activeAt (o + 1) ≡ true → Reached limit ws o (o + 1)
 sof-reached limit ws o a = record { count = rw (stands-sof (single ws) o) (add-zero (o + 1)); carry = rw (stands-sof (single ws) o) tt; sound = rw (stands-sof (single ws) o) a }

@@ -1,3 +1,4 @@
+-- Definitions.
 -- Where an interval stands in its frame, and what stands before it there. Document 01, "Frames on the line": after the
 -- opening "come SOF, bytes .., then an end, or EOD and a response. A response is an active normalization bit .., bytes, and
 -- an end."

@@ -1,3 +1,4 @@
+-- Laws.
 -- Where the next interval stands, from where this one does and what it shows. Later proofs use this law alone.
 use Prim.Native.Nat.{ℕ, _+_, _-_, _≤_, _<_}
 use mathlib.Core.Path.{_≡_, refl, sym, ap}
@@ -11,7 +12,8 @@ use borrow.Author.Tests.{eq-eqb, ne-eqb, eqb-true, eqb-false}
 use Rattle.frame.specs.Signs.{Sign, shut, bitsShown, isEod}
 use Rattle.frame.specs.Line.{Line, Found, nowhere, at, firstIn, bitsIn}
 use Rattle.frame.specs.Standing.{Standing, atSof, inMain, atNormalization, inResponse, responseBy, withBits, counted, moved, standsBy, stands}
-use Rattle.frame.specs.FirstLaws.{IsFirst, first-at, orAt, first-next, first-empty}
+use Rattle.frame.specs.FirstLaws.{first-at, orAt, first-next, first-empty}
+use Rattle.frame.specs.ReadStated.{IsFirst}
 use Rattle.frame.specs.BitLaws.{bits-next, bits-empty}
 
 -- No bits more change nothing.

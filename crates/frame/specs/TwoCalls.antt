@@ -1,3 +1,4 @@
+-- Laws.
 -- Demand 2 as a caller sees it: the two calls, one after the other, on lent memory. Everything here is said of the calls'
 -- promises, so it holds of whatever meets them.
 use Prim.Native.Nat.{ℕ, _+_, _-_, _≤_, _<_}
@@ -6,10 +7,9 @@ use mathlib.Core.Bool.{Bool, true, false}
 use mathlib.Core.List.{List, [], _++_, append-assoc}
 use native.Mathlib.Omega.{arith}
 use lib.Dec.{ltb}
-use lib.ListN.{length, take, drop}
+use lib.ListN.{length, drop}
 use lib.Seq.{take-append-le, take-append-seam, drop-append-seam}
-use Rattle.checkbyte.specs.Register.{withCheck}
-use Rattle.checkbyte.specs.Differ.{Bytes}
+use Rattle.checkbyte.specs.Register.{withCheck, Bytes}
 use Rattle.symbol.specs.declared.Clock.{Clock}
 use Rattle.symbol.specs.Clocks.{goodOf, nominalClock}
 use Rattle.units.specs.declared.Place.{Place}
@@ -25,13 +25,14 @@ use Rattle.frame.specs.Faults.{mostBytes}
 use Rattle.frame.specs.Reading.{Good, Outcome, good, frameAt, reading}
 use Rattle.frame.specs.Answers.{told, tells, lentAfter, ReadPromise}
 use Rattle.frame.specs.Writing.{Sheet, words, writing, mostWords, responseSent, frameSent, frameWords, badMessage, counted, counts, wordsAfter, WritePromise}
-use Rattle.frame.specs.ByteLaws.{withoutCheck}
+use Rattle.frame.specs.Nominal.{withoutCheck, nominalIntervals, responseBare}
 use Rattle.frame.specs.Decided.{Decision, isUnfinished, isGood, isFaulty, decision}
-use Rattle.frame.specs.Outcomes.{Comes, isPast, isShort, isQuiet, isOpened, comes}
+use Rattle.frame.specs.Outcomes.{comes}
+use Rattle.frame.specs.ReadStated.{Comes, isPast, isShort, isQuiet, isOpened}
 use Rattle.frame.specs.WriteSettled.{counted-once}
 use Rattle.frame.specs.WrittenBack.{reads-written}
-use Rattle.frame.specs.Nominal.{nominalIntervals, responseBare}
-use Rattle.frame.specs.Again.{WrittenAgain, written-again, writes-again}
+use Rattle.frame.specs.Again.{written-again, writes-again}
+use Rattle.frame.specs.WriteStated.{WrittenAgain, mainTaken, responseTaken}
 
 -- ## What is written is read back
 
@@ -113,16 +114,6 @@ framed ws p lent lengths kind o k e = go (reading ws p lent) (comes mostBytes (s
     go x (isShort h l) f d = zero-not (ap (λ t. t .number) d) (omega arith)
     go x (isQuiet h l) f d = zero-not (ap (λ t. t .number) d) (omega arith)
     go x (isOpened {o = q} h l op) f d = by x q (decision mostBytes (single ws) q) f d
-
--- a frame's parts out of the lent bytes in which it was laid, without their check bytes
-abbrev pub mainTaken : Lengths → List ℕ → List ℕ
-mainTaken lengths lent = take (lengths .main - 1) lent
-
--- the response, which stands behind the main part
-abbrev pub responseTaken : Response → Lengths → List ℕ → List ℕ
-responseTaken Without lengths lent = []
-responseTaken Plain lengths lent = take (lengths .response) (drop (lengths .main) lent)
-responseTaken Checked lengths lent = take (lengths .response - 1) (drop (lengths .main) lent)
 
 module _ (lengths : Lengths) (main response rest : List ℕ) (m : lengths .main ≡ length main) (r : lengths .response ≡ length response) where
   main-taken : mainTaken lengths ((main ++ response) ++ rest) ≡ withoutCheck main

@@ -1,3 +1,4 @@
+-- Laws.
 -- What a wave puts on the line is found there: the places of a recording carry the symbols that are meant.
 use Prim.Native.Nat.{ℕ, suc, _+_, _%_}
 use mathlib.Core.Path.{_≡_, refl, ap, _∙_}
@@ -10,10 +11,11 @@ use lib.Seq.{getD-append-seam, append-snoc}
 use borrow.Author.Tests.{eqb-true, eqb-false, eq-eqb, ne-eqb}
 use Rattle.symbol.specs.declared.Symbol.{Symbol}
 use Rattle.symbol.specs.ClassLaws.{class-only}
-use Rattle.symbol.specs.SendingLaws.{bitSymbol}
+use Rattle.symbol.specs.Sending.{bitSymbol}
 use Rattle.frame.specs.Signs.{Sign, bit}
 use Rattle.frame.specs.Line.{activeAt, symbolAt, signOf, Line, single}
 use Rattle.frame.specs.Waves.{Wave, still, pulse}
+use Rattle.frame.specs.WriteStated.{Carry}
 
 -- ## Levels
 
@@ -48,11 +50,6 @@ wave-length (pulse h w) = ap suc (wave-length w)
 abbrev pub Stand : List ℕ → ℕ → List ℕ → Type 0
 Stand ws i [] = Unit {0}
 Stand ws i (v ∷ vs) = (getD ws i 0 ≡ v) × Stand ws (i + 1) vs
-
--- the places from i on carry these symbols
-abbrev pub Carry : List ℕ → ℕ → List Symbol → Type 0
-Carry ws i [] = Unit {0}
-Carry ws i (s ∷ symbols) = (symbolAt ws i ≡ s) × Carry ws (i + 1) symbols
 
 -- Words that stand behind others stand from their number on.
 pub stands-behind : (before vs after : List ℕ) → Stand (before ++ (vs ++ after)) (length before) vs

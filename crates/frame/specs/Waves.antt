@@ -1,3 +1,4 @@
+-- Definitions.
 -- A frame on the line at any widths: what is meant at each interval, and widths that lie in the receiving windows of what is
 -- meant. The writer's words are such a wave for every good clock, and so is the line of a contest.
 use Prim.Native.Nat.{ℕ, _≤_}
@@ -7,7 +8,7 @@ use mathlib.Core.List.{List, [], _∷_, _++_, map}
 use Rattle.symbol.specs.declared.Symbol.{Symbol}
 use Rattle.symbol.specs.declared.Symbol.the-variants.{Bit0, Bit1, Eod, Sof}
 use Rattle.symbol.specs.Classes.{Window}
-use Rattle.symbol.specs.SendingLaws.{bitSymbol}
+use Rattle.symbol.specs.Sending.{bitSymbol}
 use Rattle.checkbyte.specs.Register.{withCheck}
 use Rattle.frame.specs.declared.Response.{Response}
 use Rattle.frame.specs.declared.Response.the-variants.{Without, Plain, Checked}

@@ -1,3 +1,4 @@
+-- Laws.
 -- The words of a frame: how many they are, how they join, and when a message is turned away.
 use Prim.Native.Nat.{ℕ, suc, _+_, _*_, _-_, _≤_, _<_}
 use mathlib.Core.Path.{_≡_, refl, ap, _∙_}

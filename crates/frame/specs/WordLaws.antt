@@ -1,3 +1,4 @@
+-- Laws.
 -- Symbols as a clock sends them, and the writer's words seen so: two ends of 300, and between them the symbols of the message.
 use Prim.Native.Nat.{ℕ, suc, _+_, _*_}
 use mathlib.Core.Path.{_≡_, refl, sym, ap, _∙_}
@@ -7,10 +8,7 @@ use native.Mathlib.Omega.{arith}
 use lib.ListN.{length, length-append}
 use Rattle.symbol.specs.declared.Symbol.{Symbol}
 use Rattle.symbol.specs.declared.Clock.{Clock}
-use Rattle.symbol.specs.declared.Sent.{Sent}
-use Rattle.symbol.specs.declared.Sent.the-variants.{For, Never}
-use Rattle.symbol.specs.Sending.{bitWidth, endWidth, sentOf}
-use Rattle.symbol.specs.SendingLaws.{bitSymbol}
+use Rattle.symbol.specs.Sending.{bitWidth, endWidth, sentOf, bitSymbol}
 use Rattle.checkbyte.specs.Register.{withCheck}
 use Rattle.frame.specs.declared.Response.{Response}
 use Rattle.frame.specs.declared.Response.the-variants.{Without, Plain, Checked}
@@ -19,11 +17,8 @@ use Rattle.frame.specs.Writing.{bitWidths, byteWidths, responseWidths, f
 use Rattle.frame.specs.Waves.{bitSymbols, byteSymbols, responseSymbols, frameSymbols}
 use Rattle.frame.specs.WaveLaws.{turned}
 use Rattle.frame.specs.ByteLaws.{bits-length}
-
--- the width of what is sent; 0 where nothing is, which no frame has
-abbrev pub widthOf : Sent → ℕ
-widthOf (For w) = w .0
-widthOf Never = 0
+use Rattle.frame.specs.Nominal.{widthOf}
+use Rattle.frame.specs.WriteStated.{innerWords}
 
 -- the widths that a clock sends for symbols, from a level on
 unfoldable pub sentWidths : Clock → Bool → List Symbol → List ℕ
@@ -65,10 +60,6 @@ unfolding sentWidths
 response-sent c Without rs = refl
 response-sent c Plain rs = ap (λ (l : List ℕ). c .sof .0 ∷ bitWidth c true true .0 ∷ l) (bits-sent c false (bitsOf rs))
 response-sent c Checked rs = ap (λ (l : List ℕ). c .sof .0 ∷ bitWidth c true false .0 ∷ l) (bits-sent c false (bitsOf (withCheck rs)))
-
--- what the writer puts between the two ends
-abbrev pub innerWords : Clock → List ℕ → Response → List ℕ → List ℕ
-innerWords c main kind rs = c .sof .0 ∷ (byteWidths c (withCheck main) ++ responseWidths c kind rs)
 
 -- They are the message's symbols as the clock sends them.
 pub inner-sent : (c : Clock) (main : List ℕ) (kind : Response) (rs : List ℕ) → sentWidths c true (frameSymbols main kind rs) ≡ innerWords c main kind rs

@@ -1,3 +1,4 @@
+-- Definitions.
 -- Readings worked out on paper, computed from the definitions.
 use Prim.Native.Nat.{ℕ}
 use mathlib.Core.Path.{_≡_, refl}

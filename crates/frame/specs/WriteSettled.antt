@@ -1,6 +1,7 @@
+-- Laws.
 -- Writing is settled: the promise of the call leaves one answer and one state of the lent words, and its three refusals come
 -- exactly when document 01 says so, in its order: 36, 37, 32.
-use Prim.Native.Nat.{ℕ, _≤_, _<_}
+use Prim.Native.Nat.{ℕ, _<_}
 use mathlib.Core.Path.{_≡_, refl, sym, ap, _∙_}
 use mathlib.Core.Bool.{Bool, true, false, cond, not}
 use mathlib.Core.List.{List}
@@ -18,6 +19,7 @@ use Rattle.frame.specs.declared.Writing.{Writing}
 use Rattle.frame.specs.declared.Writing.the-variants.{Words, BadClock, BadMessage, FewLentWords}
 use Rattle.frame.specs.Writing.{mostWords, frameWords, badMessage, Sheet, words, turnedAway, writing, Count, counted, counts, wordsAfter, WritePromise}
 use Rattle.frame.specs.Refusals.{TurnedAway}
+use Rattle.frame.specs.WriteStated.{Comes, isBadClock, isBadMessage, isShort, isWritten, ClockBad, MessageBad, WordsFew}
 
 -- ## One answer
 
@@ -45,14 +47,6 @@ write-settled {r} {s} a b = (counted-once r s (settled (a .counts-it) (b .counts
 
 -- ## The refusals
 
--- Every call comes to one of these.
-pub data Comes (c : Clock) (main : List ℕ) (kind : Response) (rs : List ℕ) (lent : ℕ) : Sheet → Type 0 where
-  isBadClock : goodOf c ≡ false → Comes c main kind rs lent (turnedAway 36)
-  isBadMessage : goodOf c ≡ true → badMessage main kind rs ≡ true → Comes c main kind rs lent (turnedAway 37)
-  isShort : goodOf c ≡ true → badMessage main kind rs ≡ false → lent < mostWords → Comes c main kind rs lent (turnedAway 32)
-  isWritten : goodOf c ≡ true → badMessage main kind rs ≡ false → mostWords ≤ lent
-      → Comes c main kind rs lent (words (frameWords c main kind rs))
-
 -- Every call comes to one of them.
 pub comes : (c : Clock) (main : List ℕ) (kind : Response) (rs : List ℕ) (lent : ℕ) → Comes c main kind rs lent (writing c main kind rs lent)
 unfolding writing
@@ -64,21 +58,6 @@ comes c main kind rs lent = go (goodOf c) (badMessage main kind rs) (ltb lent mo
     go true true l p q r = isBadMessage p q
     go true false true p q r = isShort p q (ltb-true lent mostWords r)
     go true false false p q r = isWritten p q (ltb-false lent mostWords r)
-
--- the rule of each refusal, where no earlier one applies
-abbrev pub ClockBad : Clock → Type 0
-ClockBad c = goodOf c ≡ false
-
--- 37, where the clock is good
-pub record MessageBad (c : Clock) (main : List ℕ) (kind : Response) (rs : List ℕ) : Type 0 where
-  pub clock : goodOf c ≡ true
-  pub message : badMessage main kind rs ≡ true
-
--- 32, where the clock is good and the message admitted
-pub record WordsFew (c : Clock) (main : List ℕ) (kind : Response) (rs : List ℕ) (lent : ℕ) : Type 0 where
-  pub clock : goodOf c ≡ true
-  pub message : badMessage main kind rs ≡ false
-  pub few : lent < mostWords
 
 -- each refusal's number and its rule
 record Numbered (c : Clock) (main : List ℕ) (kind : Response) (rs : List ℕ) (lent : ℕ) (x : Sheet) : Type 0 where

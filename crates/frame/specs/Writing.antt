@@ -1,3 +1,4 @@
+-- Definitions.
 -- Writing a frame: document 01, "Writing and the bench", first paragraph, and refusals 36, 37, 32.
 use Prim.Native.Nat.{ℕ, _+_}
 use mathlib.Core.Path.{_≡_}

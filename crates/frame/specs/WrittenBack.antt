@@ -1,3 +1,4 @@
+-- Laws.
 -- What is written is read back: for every admitted message and every good clock.
 use Prim.Native.Nat.{ℕ, _+_, _-_, _%_, _≤_}
 use mathlib.Core.Path.{_≡_, refl}
@@ -10,12 +11,11 @@ use Rattle.symbol.specs.declared.Symbol.the-variants.{Bit0, Bit1, Eod, Sof}
 use Rattle.symbol.specs.declared.Clock.{Clock}
 use Rattle.symbol.specs.declared.Sent.the-variants.{For}
 use Rattle.symbol.specs.Classes.{Window}
-use Rattle.symbol.specs.Clocks.{goodOf}
-use Rattle.symbol.specs.Sending.{bitWidth, endWidth, sentOf}
-use Rattle.symbol.specs.SendingLaws.{Good, good as good-clock, sent-in, sending-inside, bitSymbol}
+use Rattle.symbol.specs.Clocks.{goodOf, Good}
+use Rattle.symbol.specs.Sending.{bitWidth, endWidth, sentOf, bitSymbol}
+use Rattle.symbol.specs.SendingLaws.{good as good-clock, sent-in, sending-inside}
 use Rattle.units.specs.declared.Micros.{Micros}
-use Rattle.checkbyte.specs.Register.{withCheck}
-use Rattle.checkbyte.specs.Differ.{Bytes}
+use Rattle.checkbyte.specs.Register.{withCheck, Bytes}
 use Rattle.frame.specs.declared.Response.{Response}
 use Rattle.frame.specs.declared.Response.the-variants.{Without, Plain, Checked}
 use Rattle.frame.specs.Bits.{bitsOf}
@@ -24,7 +24,8 @@ use Rattle.frame.specs.Reading.{good, reading}
 use Rattle.frame.specs.Writing.{frameSent, bitWidths, responseWidths, frameWords, badMessage}
 use Rattle.frame.specs.Waves.{Wave, still, pulse, bitSymbols, byteSymbols, responseSymbols, FrameWave}
 use Rattle.frame.specs.WaveLaws.{turned, wave-append}
-use Rattle.frame.specs.WordLaws.{level-back, innerWords, frame-inner}
+use Rattle.frame.specs.WordLaws.{level-back, frame-inner}
+use Rattle.frame.specs.WriteStated.{innerWords}
 use Rattle.frame.specs.ReadBack.{reads-wave}
 
 module _ (c : Clock) (g : Good c) where

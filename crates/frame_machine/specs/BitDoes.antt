@@ -1,3 +1,4 @@
+-- Laws.
 -- A bit, in each standing: no SOF, the normalization bit, one bit more, or the first bit of a byte too many.
 use Prim.Native.Nat.{ℕ, _+_, _-_, _*_, _≤_, _<_}
 use mathlib.Core.Path.{_≡_, refl, sym, ap, _∙_}
@@ -13,7 +14,8 @@ use Rattle.checkbyte.specs.Register.{allOnes, registerFrom}
 use Rattle.frame.specs.declared.Fault.the-variants.{NoSof, ThirteenthByte}
 use Rattle.frame.specs.Signs.{bit}
 use Rattle.frame.specs.Bits.{value, bytes}
-use Rattle.frame.specs.BitLaws.{leftOver, behind, behind-more, OneMore, isLeft, isWhole, one-more, register-more}
+use Rattle.frame.specs.BitLaws.{behind-more, OneMore, isLeft, isWhole, one-more, register-more}
+use Rattle.frame.specs.ReadStated.{leftOver, behind}
 use Rattle.frame.specs.Standing.{plain, checked, Standing, atSof, inMain, atNormalization, inResponse, moved}
 use Rattle.frame.specs.Faults.{fault}
 use Rattle.frame_machine.specs.declared.Phase.{Phase}

@@ -1,3 +1,4 @@
+-- Laws.
 -- An EOD or an end, in each standing: the machine's tests are document 01's rows 16, 17, 18 and 19, in their order.
 use Prim.Native.Nat.{ℕ, _+_, _-_}
 use mathlib.Core.Path.{_≡_, refl, ap, _∙_}
@@ -11,7 +12,8 @@ use Rattle.checkbyte.specs.Register.{registerOf, registerFrom, residue}
 use Rattle.frame.specs.declared.Fault.the-variants.{SplitByte, FewBytes, WrongCheck, EodAfterResponse}
 use Rattle.frame.specs.Signs.{shut, shuts}
 use Rattle.frame.specs.Bits.{bytes}
-use Rattle.frame.specs.BitLaws.{leftOver, behind, left-none}
+use Rattle.frame.specs.BitLaws.{left-none}
+use Rattle.frame.specs.ReadStated.{leftOver, behind}
 use Rattle.frame.specs.Standing.{plain, checked, Standing, atSof, inMain, atNormalization, inResponse}
 use Rattle.frame.specs.Faults.{facts, partBytes, checksOut, whole, fault}
 use Rattle.frame.specs.StandingLaws.{counted-shut}

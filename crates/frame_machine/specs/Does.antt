@@ -1,3 +1,4 @@
+-- Laws.
 -- What one interval does, where the machine holds what stands before it: it names exactly document 01's fault, or closes the
 -- frame at an end, or holds what stands before the next interval. What follows, reading whole or live, goes by this alone.
 use Prim.Native.Nat.{ℕ, _<_}

@@ -1,3 +1,4 @@
+-- Laws.
 -- Following a frame interval by interval: what is known before each, and what the machine's event at one says of it. Nothing
 -- is said here of where the bytes are kept.
 use Prim.Native.Nat.{ℕ, _+_, _≤_, _<_}
@@ -24,13 +25,7 @@ use Rattle.frame_machine.specs.Holding.{soFar, holding}
 use Rattle.frame_machine.specs.HoldingLaws.{count-of, began-within}
 use Rattle.frame_machine.specs.Does.{Does, faults, closes, goes, stores}
 use Rattle.frame_machine.specs.StepDoes.{some-fault, fresh-holds, step-does}
-
--- before the interval at k, in the frame that opens at o: the machine holds what stands before k, and there are no more bytes
--- than a frame may have
-pub record Before (limit : ℕ) (l : Line) (o k : ℕ) (m : Machine) : Type 0 where
-  pub opened : o < k
-  pub few : length (soFar (stands l o k)) ≤ limit
-  pub holds : m ≡ holding (stands l o k)
+use Rattle.frame_machine.specs.Holding.{Before}
 
 -- At the SOF's place there is nothing yet.
 pub at-first : (limit : ℕ) (l : Line) (o : ℕ) (m : Machine) → m ≡ fresh → Before limit l o (o + 1) m

@@ -1,16 +1,19 @@
+-- Definitions.
 -- What the machine holds before an interval: all of it is read off where the interval stands in document 01's sense.
-use Prim.Native.Nat.{ℕ, _+_}
+use Prim.Native.Nat.{ℕ, _+_, _<_, _≤_}
 use mathlib.Core.Bool.{Bool}
 use mathlib.Core.List.{List, [], _++_}
 use lib.ListN.{length}
 use Rattle.checkbyte.specs.Register.{registerOf}
 use Rattle.frame.specs.Bits.{bytes}
-use Rattle.frame.specs.BitLaws.{leftOver, behind}
-use Rattle.frame.specs.Standing.{plain, checked, Standing, atSof, inMain, atNormalization, inResponse}
+use Rattle.frame.specs.ReadStated.{leftOver, behind}
+use Rattle.frame.specs.Standing.{plain, checked, Standing, atSof, inMain, atNormalization, inResponse, stands}
 use Rattle.frame.specs.Faults.{facts, mainBytes, responseBytes}
 use Rattle.frame_machine.specs.declared.Phase.{Phase}
 use Rattle.frame_machine.specs.declared.Phase.the-variants.{Sof, Main, Normalization, Plain, Checked}
 use Rattle.frame_machine.specs.declared.Machine.{Machine}
+use Rattle.frame.specs.Line.{Line}
+use mathlib.Core.Path.{_≡_}
 
 -- the phase of each standing
 abbrev pub phaseOf : Standing → Phase
@@ -39,3 +42,10 @@ holdingBy phase part before all =
 -- the machine that holds what stands before an interval
 unfoldable pub holding : Standing → Machine
 holding st = holdingBy (phaseOf st) (facts st .part) (earlier st) (soFar st)
+
+-- before the interval at k, in the frame that opens at o: the machine holds what stands before k, and there are no more bytes
+-- than a frame may have
+pub record Before (limit : ℕ) (l : Line) (o k : ℕ) (m : Machine) : Type 0 where
+  pub opened : o < k
+  pub few : length (soFar (stands l o k)) ≤ limit
+  pub holds : m ≡ holding (stands l o k)

@@ -1,3 +1,4 @@
+-- Laws.
 -- How the numbers that the machine holds hang together: it counts the bytes so far, which are those before the part and
 -- the part's own.
 use Prim.Native.Nat.{_+_, _≤_}

@@ -1,3 +1,4 @@
+-- Laws.
 -- Following a frame with its bytes kept in a row of their own, each at the place that the machine counts, until the frame
 -- closes.
 use Prim.Native.Nat.{ℕ, suc, _+_, _≤_, _<_}
@@ -22,17 +23,8 @@ use Rattle.frame_machine.specs.Steps.{fresh, stepOf}
 use Rattle.frame_machine.specs.Meaning.{meaningOf}
 use Rattle.frame_machine.specs.Holding.{soFar, holding}
 use Rattle.frame_machine.specs.HoldingLaws.{count-of}
-use Rattle.frame_machine.specs.Following.{Before, at-first, Says, count-is, says-by}
-
--- The kept bytes have room for a frame, and the bytes so far stand first in them.
-pub record Kept (limit : ℕ) (st : Standing) (kept : List ℕ) : Type 0 where
-  pub room : limit ≤ length kept
-  pub first : take (length (soFar st)) kept ≡ soFar st
-
--- before the interval at k the machine holds what stands before it, and the bytes so far are kept
-pub record Keeping (limit : ℕ) (l : Line) (o k : ℕ) (m : Machine) (kept : List ℕ) : Type 0 where
-  pub follows : Before limit l o k m
-  pub keeps : Kept limit (stands l o k) kept
+use Rattle.frame_machine.specs.Following.{at-first, Says, count-is, says-by}
+use Rattle.frame_machine.specs.Stated.{Kept, Keeping}
 
 -- the interval at k closes the frame and completes no bit: the machine holds the parts, and their bytes stand first in the
 -- kept ones

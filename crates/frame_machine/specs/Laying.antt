@@ -1,3 +1,4 @@
+-- Definitions.
 -- The bytes of a frame that closes, laid into lent bytes.
 use Prim.Native.Nat.{ℕ, _≤_}
 use mathlib.Core.Path.{_≡_, ap, _∙_}

@@ -1,15 +1,19 @@
-pub mod Steps
-pub mod Meaning
+-- Definitions.
 pub mod Holding
+pub mod Laying
+pub mod Stated
+-- Laws.
+pub mod Meaning
 pub mod HoldingLaws
 pub mod ResidueLaws
 pub mod Does
 pub mod BitDoes
 pub mod CloseDoes
 pub mod StepDoes
-pub mod Laying
-pub mod Parts
 pub mod PartLaws
 pub mod Following
 pub mod Keeping
 pub mod Room
+-- Machinery.
+pub mod Steps
+pub mod Parts

@@ -1,3 +1,4 @@
+-- Laws.
 -- The signs that the machine is told, as the frame layer has them.
 use mathlib.Core.Path.{_≡_, refl}
 use Rattle.symbol.specs.declared.Symbol.{Symbol}

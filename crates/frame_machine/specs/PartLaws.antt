@@ -1,3 +1,4 @@
+-- Laws.
 -- What the machine holds where a frame closes tells both lengths and the response.
 use Prim.Native.Nat.{ℕ, _-_}
 use mathlib.Core.Path.{_≡_, refl}

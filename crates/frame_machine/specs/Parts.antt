@@ -1,3 +1,4 @@
+-- Machinery.
 -- The parts of a frame that closes, by what the machine holds.
 use Prim.Native.Nat.{_-_}
 use Rattle.frame.specs.declared.Response.{Response}

@@ -1,3 +1,4 @@
+-- Laws.
 -- The machine judges a check byte by the register alone. That is document 01's test: the register over a part comes to
 -- 0xC4 exactly where the part's last byte is the check byte of those before it.
 use Prim.Native.Nat.{ℕ, zero, suc, _+_, _-_, _≤_, _<_}

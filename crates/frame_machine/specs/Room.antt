@@ -1,3 +1,4 @@
+-- Laws.
 -- The machine tells of a byte only where a frame may have it: one with as many bytes as it may have takes no bit more.
 use Prim.Native.Nat.{ℕ, _+_, _≤_, _<_}
 use mathlib.Core.Path.{_≡_, refl}

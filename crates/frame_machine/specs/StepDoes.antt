@@ -1,3 +1,4 @@
+-- Laws.
 -- One interval more, from every standing, by every sign.
 use Prim.Native.Nat.{ℕ, _≤_}
 use mathlib.Core.Path.{_≡_, refl}
@@ -11,7 +12,7 @@ use Rattle.frame.specs.declared.Sign.{Sign}
 use Rattle.frame.specs.declared.Sign.the-variants.{Bit, Shut, Sof, Wrong}
 use Rattle.frame.specs.Signs.{wrong, sof}
 use Rattle.frame.specs.Bits.{bytes}
-use Rattle.frame.specs.BitLaws.{leftOver, behind}
+use Rattle.frame.specs.ReadStated.{leftOver, behind}
 use Rattle.frame.specs.Standing.{plain, checked, Standing, atSof, inMain, atNormalization, inResponse}
 use Rattle.frame.specs.Faults.{fault}
 use Rattle.frame.specs.Answers.{faultNumber}

@@ -1,3 +1,4 @@
+-- Machinery.
 -- One step of the frame machine, as the code takes it. What it has to do with document 01 is shown in Does.antt.
 use Prim.Native.Nat.{ℕ, _+_, _-_, _*_}
 use mathlib.Core.Bool.{Bool, true, false, cond, not, _&&_}

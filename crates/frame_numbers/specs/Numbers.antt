@@ -1,4 +1,5 @@
--- A number for each symbol and each kind of response, since enums do not cross to other languages. Definitions only.
+-- Definitions.
+-- A number for each symbol and each kind of response, since enums do not cross to other languages.
 use Prim.Native.Nat.{ℕ}
 use mathlib.Core.Bool.{cond}
 use lib.Dec.{eqb}

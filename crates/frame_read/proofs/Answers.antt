@@ -27,7 +27,8 @@ use Rattle.frame_machine.specs.Laying.{laidOf, laid-enough}
 use Rattle.frame_machine.specs.Parts.{partsOf}
 use Rattle.frame_machine.specs.PartLaws.{parts-held}
 use Rattle.frame_machine.specs.StepDoes.{some-fault}
-use Rattle.frame_machine.specs.Keeping.{Keeping, Closing, SaysKept, kept-by}
+use Rattle.frame_machine.specs.Keeping.{Closing, SaysKept, kept-by}
+use Rattle.frame_machine.specs.Stated.{Keeping}
 use Rattle.frame_read.specs.Answering.{placed, frameOf, Meets}
 
 -- ## One interval

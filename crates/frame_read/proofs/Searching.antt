@@ -14,7 +14,8 @@ use Rattle.frame.specs.Line.{single, endAt, Found as FoundPlace, nowhere, at, f
 use Rattle.frame.specs.Faults.{mostBytes}
 use Rattle.frame.specs.Reading.{decides}
 use Rattle.frame.specs.ShownLaws.{end-width}
-use Rattle.frame.specs.FirstLaws.{IsFirst, first-at, first-empty}
+use Rattle.frame.specs.FirstLaws.{first-at, first-empty}
+use Rattle.frame.specs.ReadStated.{IsFirst}
 use Rattle.frame_read.specs.declared.Found.{Found}
 use Rattle.frame_read.specs.declared.Found.the-variants.{At, Nowhere}
 use Rattle.frame_read.specs.Answering.{foundBy}

@@ -1,3 +1,4 @@
+-- Machinery.
 -- What the pieces of reading answer: the search for an opening, the frame that is closed, and the lent bytes.
 use Prim.Native.Nat.{ℕ}
 use mathlib.Core.Path.{_≡_}

@@ -1,4 +1,5 @@
--- What a label is: document 01, "The desk's text". Definitions only.
+-- Definitions.
+-- What a label is: document 01, "The desk's text".
 use Prim.Native.Nat.{ℕ}
 use mathlib.Core.Bool.{Bool, true, _&&_, _||_}
 use mathlib.Core.List.{List, [], _∷_}

@@ -1,3 +1,4 @@
+-- Laws.
 -- A fact about each number of a range, shown by one test that is computed over the whole range.
 use mathlib.Core.Path.{_≡_}
 use mathlib.Core.Bool.{Bool, true, false, _&&_}

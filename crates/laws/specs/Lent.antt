@@ -1,3 +1,4 @@
+-- Laws.
 -- Lent memory that is written from some place on: `sets l i vs` is the list l with vs laid over it from place i.
 use mathlib.Core.Path.{_≡_, ap, _∙_}
 use mathlib.Core.List.{List, [], _∷_, _++_}

@@ -1,7 +1,9 @@
-pub mod Settled
-pub mod Tests
+-- Definitions.
 pub mod Meant
 pub mod Rules
+-- Laws.
+pub mod Settled
+pub mod Tests
 pub mod RuleLaws
 pub mod Each
 pub mod Lent

@@ -1,3 +1,4 @@
+-- Laws.
 -- The one law of the first rule that holds. Every "exactly when" of a refusal is an instance of it.
 --     first-is        the number is n exactly when rule n holds and no rule before it does
 --     none-is         it is 0 exactly when no rule holds
@@ -15,16 +16,7 @@ use lib.Dec.{eqb, leb}
 use borrow.Author.Tests.{eqb-true, eqb-false, ne-eqb, leb-true, not-true}
 use Rattle.laws.specs.Tests.{never, both}
 use Rattle.laws.specs.Rules.{Rule, firstRule, FirstToHold, NoneHolds, TurnedAway}
-
--- no rule has the number n
-abbrev pub without : ℕ → List Rule → Bool
-without n [] = true
-without n (r ∷ rs) = not (eqb n (r .number)) && without n rs
-
--- each rule has a number of its own
-abbrev pub apart : List Rule → Bool
-apart [] = true
-apart (r ∷ rs) = without (r .number) rs && apart rs
+use Rattle.laws.specs.Rules.{without, apart}
 
 absent : (n : ℕ) (rs : List Rule) → 0 < n → without n rs ≡ true → ¬ (firstRule rs ≡ n)
 absent n [] h w e = omega arith

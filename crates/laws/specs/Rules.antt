@@ -1,8 +1,9 @@
+-- Definitions.
 -- Rules by which a call is turned away, in the order in which they are judged: the number that the call answers is that of
 -- the first rule that holds. Definitions only; `RuleLaws` has the laws.
 use Prim.Native.Nat.{ℕ}
 use mathlib.Core.Path.{_≡_}
-use mathlib.Core.Bool.{cond}
+use mathlib.Core.Bool.{cond, Bool, true, not, _&&_}
 use mathlib.Core.List.{List, [], _∷_}
 use mathlib.Core.Logic.{_↔_}
 use lib.Dec.{eqb}
@@ -36,3 +37,13 @@ NoneHolds (r ∷ rs) = (¬ (r .when .Holds)) × NoneHolds rs
 pub record TurnedAway {A : Type 0} (answered refusal : A) (When AsItWas : Type 0) : Type 0 where
   pub exactly : (answered ≡ refusal) ↔ When
   pub unchanged : When → AsItWas
+
+-- no rule has the number n
+abbrev pub without : ℕ → List Rule → Bool
+without n [] = true
+without n (r ∷ rs) = not (eqb n (r .number)) && without n rs
+
+-- each rule has a number of its own
+abbrev pub apart : List Rule → Bool
+apart [] = true
+apart (r ∷ rs) = without (r .number) rs && apart rs

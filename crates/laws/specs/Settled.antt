@@ -1,3 +1,4 @@
+-- Laws.
 -- That no second answer meets a promise, where the promise is an equation: of an answer, `r ≡ f x` with `f` a definition,
 -- or of lent memory as it is afterwards. One law serves them all.
 use mathlib.Core.Path.{_≡_, sym, _∙_}

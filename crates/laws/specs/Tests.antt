@@ -1,3 +1,4 @@
+-- Laws.
 -- Tests that answer true or false, and what is known once one has answered.
 use mathlib.Core.Path.{_≡_, refl, sym}
 use mathlib.Core.Bool.{Bool, true, false, _&&_, _||_}

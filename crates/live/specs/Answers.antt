@@ -1,3 +1,4 @@
+-- Definitions.
 -- The answers of a live reader as the papers have them: the number of each, and the values that go with it.
 use Rattle.frame.specs.Answers.{faultNumber, Told, bare}
 use mathlib.Core.List.{List, [], _∷_}
@@ -5,6 +6,7 @@ use Rattle.live.specs.declared.Heard.{Heard}
 use Rattle.live.specs.declared.Heard.the-variants.{Nothing, Frame, Faulty, PastPlaces, FewLentBytes}
 use Rattle.live.specs.declared.Asked.{Asked}
 use Rattle.live.specs.declared.Asked.the-variants.{Quiet, Unfinished}
+use Prim.Native.Nat.{ℕ}
 
 -- What an interval answers, as told of a whole recording: nothing where it decides nothing, a frame or a fault; document 02's
 -- 51, and document 01's 32.
@@ -20,3 +22,11 @@ toldBy FewLentBytes = bare 32 0 0 ∷ []
 abbrev pub askedTold : Asked → Told
 askedTold (Quiet next) = bare 1 (next .0) 0
 askedTold (Unfinished opening) = bare 2 (opening .0) (opening .0)
+
+-- the number of a refusal, and 0 for what is none
+abbrev pub refusal : Heard → ℕ
+refusal Nothing = 0
+refusal (Frame lengths response opening next) = 0
+refusal (Faulty fault next) = 0
+refusal PastPlaces = 51
+refusal FewLentBytes = 32

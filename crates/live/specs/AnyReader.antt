@@ -1,3 +1,4 @@
+-- Laws.
 -- Whatever a reader's bytes are, also such as no call has left there: a frame that it tells of has at most twelve bytes.
 use Prim.Native.Nat.{ℕ, _+_, _-_, _≤_}
 use mathlib.Core.Path.{_≡_, refl}
@@ -16,7 +17,8 @@ use Rattle.live.specs.declared.Inside.{Inside}
 use Rattle.live.specs.declared.Live.{Live}
 use Rattle.live.specs.declared.Heard.{Heard}
 use Rattle.live.specs.declared.Heard.the-variants.{Nothing, Frame, Faulty, PastPlaces, FewLentBytes}
-use Rattle.live.specs.Feeding.{noFrame, least, heldBy, fedBy, stepAt, endsAt, waiting, takenOf, refusedBy, fedOf}
+use Rattle.live.specs.Feeding.{least, heldBy, fedBy, stepAt, endsAt, waiting, takenOf, refusedBy, fedOf}
+use Rattle.live.specs.Held.{noFrame}
 
 -- how many bytes an answer tells of
 abbrev pub bytesTold : Heard → ℕ

@@ -1,3 +1,4 @@
+-- Laws.
 -- Quiet and unfinished, "asked for separately": what a reader answers at the moment of asking is what reading the
 -- intervals heard so far ends with.
 use Prim.Native.Nat.{ℕ, _+_, _≤_, _<_}
@@ -16,12 +17,13 @@ use Rattle.frame.specs.StandingLaws.{stands-sof}
 use Rattle.frame.specs.Faults.{mostBytes}
 use Rattle.frame.specs.Reading.{Outcome, quiet, unfinished, readOn}
 use Rattle.frame.specs.Answers.{tells}
-use Rattle.frame.specs.Outcomes.{goesOn}
+use Rattle.frame.specs.ReadStated.{goesOn}
 use Rattle.frame_machine.specs.declared.Machine.{Machine}
 use Rattle.frame_machine.specs.Holding.{phaseOf, holding}
 use Rattle.live.specs.declared.Inside.{Inside}
 use Rattle.live.specs.declared.Live.{Live}
-use Rattle.live.specs.Feeding.{phaseNumber, insideOf, outside, askedOf}
+use Rattle.live.specs.Feeding.{askedOf}
+use Rattle.live.specs.Held.{phaseNumber, insideOf, outside}
 use Rattle.live.specs.Answers.{askedTold}
 use Rattle.live.specs.Hearing.{Rest, seeks, hears, Hears}
 use Rattle.live.specs.Taking.{reached-in}

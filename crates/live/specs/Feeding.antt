@@ -1,6 +1,7 @@
+-- Machinery.
 -- One interval more for a live reader, as the code takes it: document 02, request 1. What it has to do with reading the
 -- whole recording is shown in Whole.antt.
-use Prim.Native.Nat.{ℕ, _+_}
+use Prim.Native.Nat.{ℕ}
 use mathlib.Core.Bool.{Bool, true, false, cond, not}
 use mathlib.Core.List.{List}
 use lib.Dec.{eqb, leb, ltb}
@@ -21,7 +22,6 @@ use Rattle.frame_machine.specs.Steps.{fresh, signFor, stepOf}
 use Rattle.frame_machine.specs.declared.parts.Parts.{Parts}
 use Rattle.frame_machine.specs.Laying.{laid}
 use Rattle.frame_machine.specs.Parts.{partsOf}
-use Rattle.live.specs.declared.Places.{Places}
 use Rattle.live.specs.declared.Inside.{Inside}
 use Rattle.live.specs.declared.Live.{Live}
 use Rattle.live.specs.declared.Heard.{Heard}
@@ -29,32 +29,13 @@ use Rattle.live.specs.declared.Heard.the-variants.{Nothing, Frame, Fault
 use Rattle.live.specs.declared.Fed.{Fed}
 use Rattle.live.specs.declared.Asked.{Asked}
 use Rattle.live.specs.declared.Asked.the-variants.{Quiet, Unfinished}
+use Rattle.live.specs.Held.{noFrame, phaseNumber, insideOf, outside, behind}
 
 -- ## The reader
-
--- "Places are counted in 64 bits": the last of them
-abbrev pub lastPlace : ℕ
-lastPlace = 18446744073709551615
-
--- what a reader's phase is where it hears no frame
-abbrev pub noFrame : ℕ
-noFrame = 0
-
--- what says that the last place has been heard
-abbrev pub allHeard : ℕ
-allHeard = 1
 
 -- a place by its number
 abbrev pub longPlace : ℕ → LongPlace
 longPlace k = record { 0 = k }
-
--- the number of each phase of the frame machine in a reader that hears a frame
-abbrev pub phaseNumber : Phase → ℕ
-phaseNumber Sof = 1
-phaseNumber Main = 2
-phaseNumber Normalization = 3
-phaseNumber Plain = 4
-phaseNumber Checked = 5
 
 -- the phase that a number stands for
 abbrev pub phaseBy : ℕ → Phase
@@ -74,25 +55,6 @@ heldBy i =
       register = i .register;
       count = least (i .count) mostBytes;
       began = least (i .began) (least (i .count) mostBytes);
-    }
-
--- a frame that is being heard, by what the machine holds and by its bytes so far
-unfoldable pub insideOf : Machine → List ℕ → Inside
-insideOf m kept =
-    record { count = m .count; began = m .began; kept = kept; phase = phaseNumber (m .phase); partial = m .partial; register = m .register }
-
--- no frame
-unfoldable pub outside : List ℕ → Inside
-outside kept = record { count = 0; began = 0; kept = kept; phase = noFrame; partial = 0; register = 0 }
-
--- the places behind an interval, with the position from which reading goes on and the opening
-unfoldable pub behind : Places → (from opening : ℕ) → Places
-behind p from opening =
-    record {
-      next = cond (eqb (p .next) lastPlace) (p .next) (p .next + 1);
-      from = from;
-      opening = opening;
-      full = cond (eqb (p .next) lastPlace) allHeard 0;
     }
 
 -- a reader that has heard nothing

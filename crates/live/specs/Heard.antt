@@ -1,8 +1,9 @@
+-- Laws.
 -- A reader that was started, and the next interval, where it is taken.
 use Prim.Native.Nat.{ℕ, _+_, _≤_, _<_}
 use mathlib.Core.Path.{_≡_, refl, sym, _∙_}
 use mathlib.Core.Bool.{true, false}
-use mathlib.Core.List.{List, [], _∷_, _++_}
+use mathlib.Core.List.{List, [], _∷_}
 use native.Mathlib.Omega.{arith}
 use lib.Dec.{eqb}
 use lib.ListN.{length, getD, replicate, length-append, List·getD-append}
@@ -22,10 +23,12 @@ use Rattle.frame_machine.specs.Steps.{signFor}
 use Rattle.frame_machine.specs.Meaning.{meaningOf, sign-means}
 use Rattle.live.specs.declared.Inside.{Inside}
 use Rattle.live.specs.declared.Live.{Live}
-use Rattle.live.specs.Feeding.{lastPlace, noFrame, phaseNumber, insideOf, outside, started, endsAt, takenOf, fedOf, lentOf}
+use Rattle.live.specs.Feeding.{started, endsAt, takenOf, fedOf, lentOf}
+use Rattle.live.specs.Held.{lastPlace, noFrame, phaseNumber, insideOf, outside}
 use Rattle.live.specs.Hearing.{Counts, room, all-heard, Rest, seeks, hears, Hears, Takes, decides-nothing}
 use Rattle.live.specs.Opening.{begins-hears}
 use Rattle.live.specs.Taking.{reached-in, reached-on, none-still, takes-next}
+use Rattle.live.specs.Shown.{on}
 
 -- A reader that was started has heard nothing and told nothing.
 pub starts : Hears (single []) [] started
@@ -57,27 +60,23 @@ in-frame m kept e = rw e (some-phase (m .phase))
 -- ## One interval more of a recording
 
 module _ (ws : List ℕ) (w : ℕ) where
-  -- the recording with one interval more
-  abbrev pub on : List ℕ
-  on = ws ++ (w ∷ [])
-
-  long : length on ≡ length ws + 1
+  long : length (on ws w) ≡ length ws + 1
   long = length-append ws (w ∷ [])
 
-  same : (j : ℕ) → j < length ws → single ws .shows j ≡ single on .shows j
-  same j h = shows-same ws on j (sym (List·getD-append ws (w ∷ []) 0 j h))
+  same : (j : ℕ) → j < length ws → single ws .shows j ≡ single (on ws w) .shows j
+  same j h = shows-same ws (on ws w) j (sym (List·getD-append ws (w ∷ []) 0 j h))
 
-  here : getD on (length ws) 0 ≡ w
+  here : getD (on ws w) (length ws) 0 ≡ w
   here = getD-append-seam ws w [] 0
 
   -- what the interval shows, by its place in the recording ..
-  shown-here : (n : ℕ) → n ≡ length ws → meaningOf (signFor (classOf (activeAt n) w)) ≡ single on .shows (length ws)
+  shown-here : (n : ℕ) → n ≡ length ws → meaningOf (signFor (classOf (activeAt n) w)) ≡ single (on ws w) .shows (length ws)
   unfolding symbolAt
   shown-here n e = sign-means (classOf (activeAt n) w) ∙ rw (e, here)
 
   -- .. and whether it is an end
-  end-here : (n : ℕ) → n ≡ length ws → endAt (single on) (length ws) ≡ endOf (activeAt n) w
-  end-here n e = end-width on (length ws) ∙ rw (e, here)
+  end-here : (n : ℕ) → n ≡ length ws → endAt (single (on ws w)) (length ws) ≡ endOf (activeAt n) w
+  end-here n e = end-width (on ws w) (length ws) ∙ rw (e, here)
 
 module _ (ws : List ℕ) (xs : List Outcome) (v : Live) (h : Hears (single ws) xs v) (w : ℕ) where
   -- with bytes enough lent, and a place for the interval

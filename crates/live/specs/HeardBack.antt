@@ -1,3 +1,4 @@
+-- Laws.
 -- Demand 2, heard live: the wave of an admitted message, with widths anywhere inside the receiving windows, so that of every
 -- permitted clock too, is heard as that message.
 use Prim.Native.Nat.{ℕ, _+_, _-_, _<_}
@@ -11,7 +12,7 @@ use Rattle.symbol.specs.declared.Clock.{Clock}
 use Rattle.symbol.specs.Clocks.{goodOf}
 use Rattle.symbol.specs.SendingLaws.{good as good-clock}
 use Rattle.frame.specs.declared.Response.{Response}
-use Rattle.checkbyte.specs.Differ.{Bytes}
+use Rattle.checkbyte.specs.Register.{Bytes}
 use Rattle.frame.specs.Line.{single, at, opening}
 use Rattle.frame.specs.Faults.{mostBytes}
 use Rattle.frame.specs.Reading.{Outcome, good, quiet, readOn, reading}

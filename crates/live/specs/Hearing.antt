@@ -1,3 +1,4 @@
+-- Definitions.
 -- What a live reader knows that was started and has heard the intervals of a line, one after the other, all by what reading
 -- that line says. It is a step on the way: what live reading comes to, `live-whole`, `delivered-whole` and
 -- `calls-whole`, is said without it.
@@ -10,15 +11,15 @@ use Rattle.frame.specs.Line.{Line, nowhere, at, firstIn, opening}
 use Rattle.frame.specs.Faults.{mostBytes}
 use Rattle.frame.specs.Reading.{Outcome, decides}
 use Rattle.frame.specs.Answers.{tells, lentAfter}
-use Rattle.frame.specs.Outcomes.{goesOn}
+use Rattle.frame.specs.ReadStated.{goesOn}
 use Rattle.frame.specs.ReadingOn.{nextOf, onLine, Reaches}
 use Rattle.frame_machine.specs.declared.Machine.{Machine}
-use Rattle.frame_machine.specs.Keeping.{Keeping}
+use Rattle.frame_machine.specs.Stated.{Keeping}
 use Rattle.live.specs.declared.Places.{Places}
 use Rattle.live.specs.declared.Inside.{Inside}
 use Rattle.live.specs.declared.Live.{Live}
 use Rattle.live.specs.declared.Fed.{Fed}
-use Rattle.live.specs.Feeding.{lastPlace, allHeard, outside, insideOf}
+use Rattle.live.specs.Held.{lastPlace, allHeard, outside, insideOf}
 use Rattle.live.specs.Answers.{toldBy}
 
 -- The frames and faults of a line, each read from the next position of the one before, the first from 0, as far as they are

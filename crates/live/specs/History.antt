@@ -1,3 +1,4 @@
+-- Laws.
 -- Any history of calls on a started reader: intervals with as many or as few bytes lent as the caller likes, and questions
 -- between them. Refused intervals and questions leave no trace, and what is left is reading.
 use Prim.Native.Nat.{ℕ, _+_, _≤_}
@@ -13,37 +14,14 @@ use Rattle.frame.specs.Faults.{mostBytes}
 use Rattle.frame.specs.Reading.{Outcome}
 use Rattle.frame.specs.ReadingOn.{ReadsOn}
 use Rattle.live.specs.declared.Live.{Live}
-use Rattle.live.specs.Feeding.{lastPlace, started, fedOf}
+use Rattle.live.specs.Feeding.{started, fedOf}
+use Rattle.live.specs.Held.{lastPlace}
 use Rattle.live.specs.Hearing.{Counts, room, all-heard, Hears, Takes, decides-nothing, decides-one}
 use Rattle.live.specs.Heard.{starts, takes-it}
-use Rattle.live.specs.Refused.{refusal, refused-as, refused-leaves, refused-51}
-use Rattle.live.specs.Shown.{Comes, recording, Enough, none, also, afterOne, afterAll, showsAll, reads, showsAsked}
+use Rattle.live.specs.Refused.{refused-as, refused-leaves, refused-51}
+use Rattle.live.specs.Answers.{refusal}
+use Rattle.live.specs.Shown.{Comes, recording, Enough, none, also, afterOne, afterAll, showsAll, reads, showsAsked, Call, hearing, asking, afterCalls, isTaken, takenIn}
 use Rattle.live.specs.Whole.{live-whole}
-
--- a call on a reader
-pub data Call : Type 0 where
-  hearing : Comes → Call
-  asking : Call
-
--- the reader behind a call
-abbrev pub afterCall : Live → Call → Live
-afterCall v (hearing i) = afterOne v i
-afterCall v asking = v
-
--- behind some, one after the other
-abbrev pub afterCalls : Live → List Call → Live
-afterCalls v [] = v
-afterCalls v (c ∷ cs) = afterCalls (afterCall v c) cs
-
--- the interval is not refused
-abbrev pub isTaken : Live → Comes → Bool
-isTaken v i = eqb (refusal (fedOf v (i .width) (length (i .lent)) .heard)) 0
-
--- the intervals of a history that are not refused
-abbrev pub takenIn : Live → List Call → List Comes
-takenIn v [] = []
-takenIn v (asking ∷ cs) = takenIn v cs
-takenIn v (hearing i ∷ cs) = cond (isTaken v i) (i ∷ takenIn (afterOne v i) cs) (takenIn v cs)
 
 -- An interval that is not refused had bytes enough.
 taken-enough : (v : Live) (i : Comes) → isTaken v i ≡ true → mostBytes ≤ length (i .lent)

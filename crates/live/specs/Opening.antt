@@ -1,3 +1,4 @@
+-- Laws.
 -- The reader's own state: what the machine gets back of it, how places are counted, and how a frame is begun.
 use Prim.Native.Nat.{ℕ, _+_, _^_, _≤_, _<_}
 use mathlib.Core.Path.{_≡_, refl, sym, ap, subst, _∙_}
@@ -17,10 +18,12 @@ use Rattle.frame_machine.specs.declared.Phase.{Phase}
 use Rattle.frame_machine.specs.declared.Phase.the-variants.{Sof, Main, Normalization, Plain, Checked}
 use Rattle.frame_machine.specs.declared.Machine.{Machine}
 use Rattle.frame_machine.specs.Steps.{fresh}
-use Rattle.frame_machine.specs.Keeping.{Keeping, keeping-first}
+use Rattle.frame_machine.specs.Keeping.{keeping-first}
+use Rattle.frame_machine.specs.Stated.{Keeping}
 use Rattle.live.specs.declared.Places.{Places}
 use Rattle.live.specs.declared.Live.{Live}
-use Rattle.live.specs.Feeding.{lastPlace, phaseNumber, phaseBy, heldBy, insideOf, behind, beginsAnew}
+use Rattle.live.specs.Feeding.{phaseBy, heldBy, beginsAnew}
+use Rattle.live.specs.Held.{lastPlace, phaseNumber, insideOf, behind}
 use Rattle.live.specs.Hearing.{Reached, Counts, room, all-heard, Rest, seeks, hears, Hears}
 
 -- ## The machine

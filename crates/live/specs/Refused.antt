@@ -1,3 +1,4 @@
+-- Laws.
 -- When an interval is refused: 51 where there is no place for it, then 32 where under twelve bytes are lent; and that a
 -- refusal changes nothing.
 use Prim.Native.Nat.{ℕ, _+_, _≤_, _<_}
@@ -20,17 +21,10 @@ use Rattle.frame_machine.specs.declared.Event.the-variants.{Going, Byte, Closed
 use Rattle.live.specs.declared.Live.{Live}
 use Rattle.live.specs.declared.Heard.{Heard}
 use Rattle.live.specs.declared.Heard.the-variants.{Nothing, Frame, Faulty, PastPlaces, FewLentBytes}
-use Rattle.live.specs.Feeding.{lastPlace, noFrame, waiting, refusedBy, fedBy, stepAt, endsAt, takenOf, fedOf, laidBy, lentOf}
-use Rattle.live.specs.Answers.{toldBy}
+use Rattle.live.specs.Feeding.{waiting, refusedBy, fedBy, stepAt, endsAt, takenOf, fedOf, laidBy, lentOf}
+use Rattle.live.specs.Held.{lastPlace, noFrame}
+use Rattle.live.specs.Answers.{toldBy, refusal}
 use Rattle.live.specs.Hearing.{Counts, room, all-heard, Hears}
-
--- the number of a refusal, and 0 for what is none
-abbrev pub refusal : Heard → ℕ
-refusal Nothing = 0
-refusal (Frame lengths response opening next) = 0
-refusal (Faulty fault next) = 0
-refusal PastPlaces = 51
-refusal FewLentBytes = 32
 
 -- A refusal is told by its number, and by nothing else.
 pub refusal-51 : (h : Heard) → refusal h ≡ 51 → toldBy h ≡ bare 51 0 0 ∷ []

@@ -1,3 +1,4 @@
+-- Definitions.
 -- What intervals show as they come, one after the other and in deliveries, and what reading shows: each answer, and the bytes
 -- that it tells of.
 use Prim.Native.Nat.{ℕ, _+_, _≤_}
@@ -7,8 +8,12 @@ use Rattle.frame.specs.Faults.{mostBytes}
 use Rattle.frame.specs.Reading.{Outcome}
 use Rattle.frame.specs.Answers.{Told, tells, written}
 use Rattle.live.specs.declared.Live.{Live}
-use Rattle.live.specs.Feeding.{fedOf, lentOf, askedOf}
-use Rattle.live.specs.Answers.{toldBy, askedTold}
+use Rattle.live.specs.Feeding.{fedOf, lentOf, askedOf, started}
+use Rattle.live.specs.Answers.{toldBy, askedTold, refusal}
+use Rattle.live.specs.Hearing.{Reached, Takes}
+use Rattle.frame.specs.Line.{single}
+use mathlib.Core.Bool.{Bool, cond}
+use lib.Dec.{eqb}
 
 -- ## Intervals one after the other
 
@@ -77,3 +82,38 @@ showsIn v (d ∷ ds) = showsAll v d ++ showsIn (afterAll v d) ds
 abbrev pub afterIn : Live → List (List Comes) → Live
 afterIn v [] = v
 afterIn v (d ∷ ds) = afterIn (afterAll v d) ds
+
+-- the recording with one interval more
+abbrev pub on : List ℕ → ℕ → List ℕ
+on ws w = ws ++ (w ∷ [])
+
+-- what a reader that has heard some intervals does with the next
+pub record Next (is : List Comes) (i : Comes) : Type 0 where
+  pub told-before : List Outcome
+  pub reached : Reached (single (recording is)) (afterAll started is .places .from) told-before
+  pub takes : Takes (single (recording is)) (single (recording is ++ (i .width ∷ []))) told-before (i .lent) (lentOf (afterAll started is) (i .width) (i .lent)) (fedOf (afterAll started is) (i .width) (length (i .lent)))
+
+-- a call on a reader
+pub data Call : Type 0 where
+  hearing : Comes → Call
+  asking : Call
+
+-- the reader behind a call
+abbrev pub afterCall : Live → Call → Live
+afterCall v (hearing i) = afterOne v i
+afterCall v asking = v
+
+-- behind some, one after the other
+abbrev pub afterCalls : Live → List Call → Live
+afterCalls v [] = v
+afterCalls v (c ∷ cs) = afterCalls (afterCall v c) cs
+
+-- the interval is not refused
+abbrev pub isTaken : Live → Comes → Bool
+isTaken v i = eqb (refusal (fedOf v (i .width) (length (i .lent)) .heard)) 0
+
+-- the intervals of a history that are not refused
+abbrev pub takenIn : Live → List Call → List Comes
+takenIn v [] = []
+takenIn v (asking ∷ cs) = takenIn v cs
+takenIn v (hearing i ∷ cs) = cond (isTaken v i) (i ∷ takenIn (afterOne v i) cs) (takenIn v cs)

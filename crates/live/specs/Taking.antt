@@ -1,3 +1,4 @@
+-- Laws.
 -- One interval more, which is not refused: what a reader knows goes on.
 use Prim.Native.Nat.{ℕ, _+_, _-_, _≤_, _<_}
 use mathlib.Core.Path.{_≡_, refl, sym, ap, subst, _∙_}
@@ -10,8 +11,9 @@ use Rattle.frame.specs.Standing.{Standing, stands}
 use Rattle.frame.specs.Faults.{mostBytes}
 use Rattle.frame.specs.Reading.{Outcome, good, closed, faulty, decides, decidedBy, readOn}
 use Rattle.frame.specs.Answers.{faultNumber}
-use Rattle.frame.specs.FirstLaws.{IsFirst, first-at, orAt, first-next, first-empty}
-use Rattle.frame.specs.Outcomes.{Opens, opened-reading, goesOn}
+use Rattle.frame.specs.FirstLaws.{first-at, orAt, first-next, first-empty}
+use Rattle.frame.specs.ReadStated.{IsFirst, Opens, goesOn}
+use Rattle.frame.specs.Outcomes.{opened-reading}
 use Rattle.frame.specs.ReadingOn.{nextOf, progress, none-yet, one-more}
 use Rattle.frame.specs.Longer.{first-same, end-same, stands-same, decides-same, reading-stays}
 use Rattle.frame_machine.specs.declared.Machine.{Machine}
@@ -24,9 +26,11 @@ use Rattle.frame_machine.specs.PartLaws.{parts-held}
 use Rattle.frame_machine.specs.Meaning.{meaningOf}
 use Rattle.frame_machine.specs.StepDoes.{some-fault}
 use Rattle.frame_machine.specs.Following.{held-few, held-began}
-use Rattle.frame_machine.specs.Keeping.{Kept, Keeping, SaysKept, kept-by}
+use Rattle.frame_machine.specs.Keeping.{SaysKept, kept-by}
+use Rattle.frame_machine.specs.Stated.{Kept, Keeping}
 use Rattle.live.specs.declared.Live.{Live}
-use Rattle.live.specs.Feeding.{lastPlace, heldBy, insideOf, behind, beginsAnew, goesOn as goesOnWith, fedBy, signAt, stepAt, endsAt, laidBy}
+use Rattle.live.specs.Feeding.{heldBy, beginsAnew, goesOn as goesOnWith, fedBy, signAt, stepAt, endsAt, laidBy}
+use Rattle.live.specs.Held.{lastPlace, insideOf, behind}
 use Rattle.live.specs.Hearing.{Reached, Counts, hears, Hears, Takes, decides-nothing, decides-one}
 use Rattle.live.specs.Opening.{held-inside, counts-on, begins-hears}
 

@@ -1,3 +1,4 @@
+-- Laws.
 -- Live reading is reading: the answers to the intervals of a recording, one after the other and however they are cut into
 -- deliveries, with the bytes of their frames, and then the answer when asked, are those of reading the whole recording on
 -- from its start.
@@ -13,15 +14,16 @@ use Rattle.frame.specs.Line.{single}
 use Rattle.frame.specs.Faults.{mostBytes}
 use Rattle.frame.specs.Reading.{Outcome, good, quiet, unfinished, faulty, refused, reading}
 use Rattle.frame.specs.Answers.{Told, tells, lentAfter}
-use Rattle.frame.specs.Outcomes.{goesOn}
+use Rattle.frame.specs.ReadStated.{goesOn}
 use Rattle.frame.specs.ReadingOn.{ReadsOn, last, reads-once, reads-through}
 use Rattle.live.specs.declared.Live.{Live}
-use Rattle.live.specs.Feeding.{lastPlace, started, fedOf, lentOf, askedOf}
+use Rattle.live.specs.Feeding.{started, fedOf, lentOf, askedOf}
+use Rattle.live.specs.Held.{lastPlace}
 use Rattle.live.specs.Answers.{askedTold}
-use Rattle.live.specs.Hearing.{Reached, Hears, Takes, decides-nothing, decides-one}
+use Rattle.live.specs.Hearing.{Hears, Takes, decides-nothing, decides-one}
 use Rattle.live.specs.Heard.{starts, takes-it}
 use Rattle.live.specs.Asking.{asks}
-use Rattle.live.specs.Shown.{Comes, recording, Enough, none, also, Shown, afterOne, afterAll, shown, showsOne, showsAll, reads, showsAsked, joined, showsIn, afterIn}
+use Rattle.live.specs.Shown.{Comes, recording, Enough, none, also, Shown, afterOne, afterAll, shown, showsOne, showsAll, reads, showsAsked, joined, showsIn, afterIn, Next}
 
 -- ## Intervals one after the other
 
@@ -126,12 +128,6 @@ pub delivered-whole : (ds : List (List Comes)) → Enough (joined ds) → length
 delivered-whole ds enough fits zs r = rw (deliveries started ds, after-deliveries started ds) (live-whole (joined ds) enough fits zs r)
 
 -- ## The interval that decides
-
--- what a reader that has heard some intervals does with the next
-pub record Next (is : List Comes) (i : Comes) : Type 0 where
-  pub told-before : List Outcome
-  pub reached : Reached (single (recording is)) (afterAll started is .places .from) told-before
-  pub takes : Takes (single (recording is)) (single (recording is ++ (i .width ∷ []))) told-before (i .lent) (lentOf (afterAll started is) (i .width) (i .lent)) (fedOf (afterAll started is) (i .width) (length (i .lent)))
 
 -- "An answer at the interval that decides it": a frame or a fault is told at its own place, and is the next that reading tells
 -- of the recording with that interval.

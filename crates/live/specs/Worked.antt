@@ -1,3 +1,4 @@
+-- Laws.
 -- Document 01's worked reading, heard interval by interval: computed from the definitions.
 use Prim.Native.Nat.{ℕ}
 use mathlib.Core.Path.{_≡_, refl}
@@ -9,7 +10,8 @@ use Rattle.frame.specs.Faults.{mostBytes}
 use Rattle.frame.specs.Reading.{good, quiet}
 use Rattle.frame.specs.WorkedReading.{ffff, ffffRead}
 use Rattle.frame_machine.specs.Steps.{pushOf, bitOf, sofOf, closeOf}
-use Rattle.live.specs.Feeding.{heldBy, insideOf, outside, behind, started, beginsAnew, goesOn, takenOf, fedOf, lentOf, askedOf}
+use Rattle.live.specs.Feeding.{heldBy, started, beginsAnew, goesOn, takenOf, fedOf, lentOf, askedOf}
+use Rattle.live.specs.Held.{insideOf, outside, behind}
 use Rattle.live.specs.Shown.{Comes, showsAll, afterAll, showsAsked, reads}
 
 -- its intervals, with twelve bytes of zeros lent for each

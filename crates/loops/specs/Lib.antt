@@ -1,1 +1,2 @@
+-- Laws.
 pub mod Scan

@@ -1,3 +1,4 @@
+-- Laws.
 -- Laws of loops over an array: one for every fold, which goes from the end, and one for every filling, which goes from the
 -- start.
 use Prim.Native.Nat.{ℕ, zero, suc, _+_, _-_, _≤_, _<_}

@@ -1,3 +1,4 @@
+-- Laws.
 -- What the table of widths gives to the rooms above: one symbol for each width at each level, and where the edges stand.
 use Prim.Native.Nat.{ℕ}
 use mathlib.Core.Path.{_≡_, refl, sym, _∙_}

@@ -1,3 +1,4 @@
+-- Definitions.
 -- Document 01, "Symbols": its table of widths, and what an end is. A level is a Bool: true is active, false is passive.
 use Prim.Native.Nat.{ℕ, _≤_, _<_}
 use mathlib.Core.Bool.{Bool, true, false, cond, not, _&&_}

@@ -1,3 +1,4 @@
+-- Definitions.
 -- Document 01, "Writing and the bench": what a clock is, and when its widths lie in the sending windows.
 use Prim.Native.Nat.{ℕ, _≤_}
 use mathlib.Core.Bool.{Bool, _&&_}
@@ -27,3 +28,9 @@ goodOf c = withinOf 49 79 (c .short .0) && (withinOf 112 145 (c .long .0) && wit
 -- "nominal is 64, 128, 200"
 abbrev pub nominalClock : Clock
 nominalClock = record { short = record { 0 = 64 }; long = record { 0 = 128 }; sof = record { 0 = 200 } }
+
+-- a clock whose three widths lie in the sending windows
+pub record Good (c : Clock) : Type 0 where
+  pub short : Short (c .short .0)
+  pub long : Long (c .long .0)
+  pub sof : Start (c .sof .0)

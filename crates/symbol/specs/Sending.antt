@@ -1,3 +1,4 @@
+-- Definitions.
 -- With what width a symbol is sent: document 01, "Writing and the bench", over the bit levels of SAE J1850.
 use Prim.Native.Nat.{ℕ}
 use mathlib.Core.Path.{_≡_}
@@ -58,3 +59,8 @@ SendingWindow true Eof w = ⊥
 SendingWindow true Ifs w = ⊥
 SendingWindow true Break w = ⊥
 SendingWindow true Stuck w = ⊥
+
+-- the symbol of a bit
+abbrev pub bitSymbol : Bool → Symbol
+bitSymbol false = Bit0
+bitSymbol true = Bit1

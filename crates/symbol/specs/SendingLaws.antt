@@ -1,3 +1,4 @@
+-- Laws.
 -- What a good clock sends is read as it was meant.
 use Prim.Native.Nat.{ℕ, _≤_}
 use mathlib.Core.Path.{_≡_, refl}
@@ -12,14 +13,9 @@ use Rattle.symbol.specs.declared.Symbol.the-variants.{Noise, Bit0, Bit1,
 use Rattle.symbol.specs.declared.Clock.{Clock}
 use Rattle.symbol.specs.declared.Sent.the-variants.{For, Never}
 use Rattle.symbol.specs.Classes.{Window}
-use Rattle.symbol.specs.Clocks.{Short, Long, Start, withinOf, goodOf, nominalClock}
+use Rattle.symbol.specs.Clocks.{withinOf, goodOf, nominalClock}
 use Rattle.symbol.specs.Sending.{endWidth, sentOf, SendingWindow}
-
--- a clock whose three widths lie in the sending windows
-pub record Good (c : Clock) : Type 0 where
-  pub short : Short (c .short .0)
-  pub long : Long (c .long .0)
-  pub sof : Start (c .sof .0)
+use Rattle.symbol.specs.Clocks.{Good}
 
 inside : (first last w : ℕ) → withinOf first last w ≡ true → (first ≤ w) × (w ≤ last)
 inside first last w e =
@@ -100,8 +96,3 @@ sending-inside true Eof w h = absurd h
 sending-inside true Ifs w h = absurd h
 sending-inside true Break w h = absurd h
 sending-inside true Stuck w h = absurd h
-
--- the symbol of a bit
-abbrev pub bitSymbol : Bool → Symbol
-bitSymbol false = Bit0
-bitSymbol true = Bit1

@@ -1,3 +1,4 @@
+-- Definitions.
 -- The edges of the rules, worked from the definitions: points that document 01 settles in a word or leaves to the reader, each
 -- as one small case. Nothing else rests on them; they show that the definitions mean what one expects.
 use mathlib.Core.Path.{_≡_, refl}

@@ -1,3 +1,4 @@
+-- Laws.
 -- When the open call gives which answer: each refusal exactly when its rule is the first to hold, with the words as they
 -- were, and a number of intervals exactly when no rule holds. Laws, with what has to be so for each outcome.
 use Prim.Native.Nat.{ℕ, _<_}

@@ -1,3 +1,4 @@
+-- Laws.
 -- The intervals say what the judged samples say, sample by sample: laid out again, each for as long as it lasts and the levels
 -- alternating from passive, they are the levels of the trace, and no other intervals are. Laws, with the definition of laying
 -- out.
@@ -11,13 +12,9 @@ use lib.Ieee.{Float}
 use lib.ListN.{length, replicate}
 use Rattle.volts.specs.Levels.{judgements, levels}
 use Rattle.volts.specs.Intervals.{runs, widths, intervalsOf}
-use Rattle.volts.specs.IntervalLaws.{later, AtLeastOne, levels-length}
+use Rattle.volts.specs.IntervalLaws.{levels-length}
+use Rattle.volts.specs.Stated.{later, AtLeastOne, laidOut}
 use Rattle.volts.specs.declared.Gate.{Gate}
-
--- the level at each sample, where the first interval is at the level given and the levels alternate from there
-abbrev pub laidOut : Bool → List ℕ → List Bool
-laidOut level [] = []
-laidOut level (w ∷ ws) = replicate w level ++ laidOut (not level) ws
 
 replicate-push : (n : ℕ) (a : Bool) (bs : List Bool) → replicate n a ++ (a ∷ bs) ≡ a ∷ (replicate n a ++ bs)
 replicate-push zero a bs = refl

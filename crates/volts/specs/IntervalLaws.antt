@@ -1,3 +1,4 @@
+-- Laws.
 -- What document 01 says of the intervals, "From volts to intervals", shown of the definition. Laws, with the two small
 -- definitions that they speak of.
 use Prim.Native.Nat.{ℕ, suc, _+_, _≤_}
@@ -12,21 +13,7 @@ use Rattle.volts.specs.Levels.{judgements, levelAfter, levelsFrom, level
 use Rattle.volts.specs.Intervals.{runs, widths, intervalsOf}
 use Rattle.volts.specs.declared.Gate.{Gate}
 use Rattle.volts.specs.declared.Judged.{Judged}
-
--- how long the intervals are together
-abbrev pub total : List ℕ → ℕ
-total [] = 0
-total (w ∷ ws) = w + total ws
-
--- every later interval: all but the first
-abbrev pub later : List ℕ → List ℕ
-later [] = []
-later (w ∷ ws) = ws
-
--- each of the widths is at least 1
-abbrev pub AtLeastOne : List ℕ → Type 0
-AtLeastOne [] = Unit
-AtLeastOne (w ∷ ws) = (1 ≤ w) × AtLeastOne ws
+use Rattle.volts.specs.Stated.{total, later, AtLeastOne}
 
 -- there is a level for each sample
 pub levels-length : (g : Gate) (s : List Float) → length (levels (judgements g s)) ≡ length s

@@ -1,4 +1,5 @@
--- The intervals of a trace: document 01, "From volts to intervals". Definitions only.
+-- Definitions.
+-- The intervals of a trace: document 01, "From volts to intervals".
 use Prim.Native.Nat.{ℕ, suc}
 use mathlib.Core.Bool.{Bool, true, false}
 use mathlib.Core.List.{List, [], _∷_}

@@ -1,4 +1,5 @@
--- What a gate says of one sample: document 01, "From volts to intervals". Definitions only.
+-- Definitions.
+-- What a gate says of one sample: document 01, "From volts to intervals".
 use mathlib.Core.Bool.{Bool, true, false, cond, _&&_}
 use lib.Ieee.{Float, nan, inf, fin, binary32, sub, lt, le}
 use Rattle.volts.specs.declared.Gate.{Gate}

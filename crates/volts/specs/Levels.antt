@@ -1,5 +1,6 @@
+-- Definitions.
 -- The level of the line at each judged sample: document 01, "From volts to intervals". A level is true where the line is
--- active and false where it is passive. Definitions only.
+-- active and false where it is passive.
 use mathlib.Core.Bool.{Bool, true, false, _||_}
 use mathlib.Core.List.{List, [], _∷_, map}
 use lib.Ieee.{Float}

@@ -1,4 +1,5 @@
--- That nothing but one answer and one list of words meets the promise of the open call. Laws only.
+-- Laws.
+-- That nothing but one answer and one list of words meets the promise of the open call.
 use mathlib.Core.Path.{_≡_, refl, sym, ap, _∙_}
 use mathlib.Core.Bool.{cond}
 use mathlib.Core.List.{List}

@@ -1,22 +1,19 @@
--- What the rule of 35 says of a trace: that there is a sample in it which the gate judges unusable. Laws only.
-use Prim.Native.Nat.{ℕ, zero, suc, _<_}
+-- Laws.
+-- What the rule of 35 says of a trace: that there is a sample in it which the gate judges unusable.
+use Prim.Native.Nat.{ℕ, zero, suc}
 use mathlib.Core.Path.{_≡_, refl}
 use mathlib.Core.Bool.{true, _||_, or-true}
 use mathlib.Core.List.{List, [], _∷_}
 use mathlib.Core.Logic.{_↔_}
 use native.Mathlib.Omega.{arith}
-use lib.Ieee.{Float, nan}
-use lib.ListN.{length, getD}
+use lib.Ieee.{Float}
 use Rattle.volts.specs.Judging.{judged}
 use Rattle.volts.specs.Levels.{isUnusable}
 use Rattle.volts.specs.Tracing.{sampleUnusable}
 use Rattle.volts.specs.declared.Gate.{Gate}
 use Rattle.volts.specs.declared.Judged.{Judged}
 use Rattle.volts.specs.declared.Judged.the-variants.{Active, Passive, Between, Unusable}
-
--- a place in the trace, and that its sample is unusable
-abbrev pub UnusableIn : Gate → List Float → Type 0
-UnusableIn g s = (i : ℕ) × (i < length s) × (judged g (getD s i nan) ≡ Unusable)
+use Rattle.volts.specs.Stated.{UnusableIn}
 
 one-later : (g : Gate) (x : Float) (xs : List Float) → UnusableIn g xs → UnusableIn g (x ∷ xs)
 one-later g x xs (i, h, e) = (suc i, omega arith, e)

@@ -1,3 +1,4 @@
+-- Definitions.
 -- The starred trace of document 01, "Worked on paper", worked from the definitions.
 use Prim.Native.Nat.{ℕ}
 use mathlib.Core.Path.{_≡_, refl}

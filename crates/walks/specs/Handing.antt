@@ -1,3 +1,4 @@
+-- Laws.
 -- A function that hands all that is lent to it on to one callee with the same parameters: what the callee says of the last
 -- values is what the function says of them.
 --     calls-handed     the call: all that is lent is given for good, and the last values are known

@@ -1,2 +1,3 @@
+-- Laws.
 pub mod Walk
 pub mod Handing

@@ -1,3 +1,4 @@
+-- Laws.
 -- What proofs that walk a function by hand share.
 --     Locals E os      the cells of a function's locals, local 0 first: each holds a value, or is room
 --     Opened E k os    the same while the cell of local k is held otherwise, as the cells of an array's elements

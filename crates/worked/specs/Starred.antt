@@ -1,3 +1,4 @@
+-- Definitions.
 -- The starred items of document 01, "Worked on paper", from the definitions alone: one statement over one list.
 use Prim.Native.Nat.{ℕ}
 use mathlib.Core.Path.{_≡_, refl}

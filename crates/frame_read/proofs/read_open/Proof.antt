@@ -8,7 +8,8 @@ use lib.ListN.{length}
 use Rattle.frame.specs.Line.{single, firstIn}
 use Rattle.frame.specs.Faults.{mostBytes}
 use Rattle.frame.specs.Reading.{decides}
-use Rattle.frame_machine.specs.Keeping.{Keeping, keeping-first}
+use Rattle.frame_machine.specs.Keeping.{keeping-first}
+use Rattle.frame_machine.specs.Stated.{Keeping}
 use Rattle.frame_read.proofs.Searching.{decides-here, decides-none}
 use Rattle.frame_read.proofs.Answers.{told-by, unfinished-meets, faulty-meets, closed-meets}
 use borrow.Author.Needs.{needs}

@@ -1,5 +1,5 @@
 -- `live::inside_of` meets its contract.
-use Rattle.live.specs.Feeding.{insideOf}
+use Rattle.live.specs.Held.{insideOf}
 use borrow.Author.Needs.{needs}
 use Rattle.live.proofs.held.inside_of.Statement.{statement}
 use Rattle.live.proofs.held.inside_of.Tie as tie

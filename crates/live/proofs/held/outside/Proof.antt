@@ -1,6 +1,6 @@
 -- `live::outside` meets its contract.
 use mathlib.Core.Path.{refl}
-use Rattle.live.specs.Feeding.{outside}
+use Rattle.live.specs.Held.{outside}
 use Rattle.live.proofs.held.outside.Statement.{statement}
 use Rattle.live.proofs.held.outside.Tie as tie
 

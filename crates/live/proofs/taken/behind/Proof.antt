@@ -1,6 +1,6 @@
 -- `live::behind` meets its contract: one place on, and behind the last none.
 use borrow.Author.Tests.{eq-eqb, ne-eqb}
-use Rattle.live.specs.Feeding.{behind}
+use Rattle.live.specs.Held.{behind}
 use borrow.Author.Needs.{needs}
 use Rattle.live.proofs.taken.behind.Statement.{statement}
 use Rattle.live.proofs.taken.behind.Tie as tie
