@@ -25,7 +25,7 @@ unfoldable pub pulsesOf : Clock → Bool → Bits → List Pulse
 pulsesOf c active [] = []
 pulsesOf c active (b ∷ bits) = record { bit = b; width = bitWidth c active b .0 } ∷ pulsesOf c (not active) bits
 
--- a holder's entry: behind the SOF, which is active, the first bit is passive
+-- a holder's entry: after the SOF, which is active, the first bit is passive
 abbrev pub holder : Clock → List ℕ → Entry
 holder c m = enters (c .sof .0) (pulsesOf c false (bitsSent m))
 

@@ -39,7 +39,7 @@ lost-there {m = m} (pastLast b ws e) = rw e (at-past 1 m b ws ∙ ap Lost (omega
 pub difference-once : {w m : Bits} {j k : ℕ} → FirstDifference w m j → FirstDifference w m k → j ≡ k
 difference-once {w} {m} {j} {k} d e = let p : against 1 w m ≡ Lost j = lost-there d in let q : against 1 w m ≡ Lost k = lost-there e in cc
 
--- ## A message behind the winner has one
+-- ## A message that the winner is ahead of has one
 
 more : (b : Bool) {w m : Bits} {k : ℕ} → FirstDifference w m k → FirstDifference (b ∷ w) (b ∷ m) (suc k)
 more b (otherBit same ws ms x y d e f) = otherBit (b ∷ same) ws ms x y d (ap (λ (r : Bits). b ∷ r) e) (ap (λ (r : Bits). b ∷ r) f)

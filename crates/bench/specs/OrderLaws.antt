@@ -74,7 +74,7 @@ asymmetric x y p = go (ahead y x) refl
     go false e = e
     go true e = never (transitive x y x p e) (irreflexive x)
 
--- A message that is not ahead of another is equal to it, or behind it.
+-- A message that is not ahead of another is equal to it, or the other is ahead.
 pub equal-or-behind : (x y : Bits) → ahead x y ≡ false → (x ≡ y) ⊎ (ahead y x ≡ true)
 unfolding ahead
 equal-or-behind [] [] p = inl refl

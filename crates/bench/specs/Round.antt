@@ -81,7 +81,7 @@ pub record Course : Type 0 where
 abbrev pub over : List Seat → Course
 over seats = record { widths = []; seats = seats }
 
--- a bit of width w, and what comes behind it
+-- a bit of width w, and what comes after it
 abbrev pub bitThen : ℕ → Course → Course
 bitThen w c = record { widths = w ∷ c .widths; seats = c .seats }
 

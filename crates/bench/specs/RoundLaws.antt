@@ -38,7 +38,7 @@ heard-fair k active b (on (p ∷ ps) ∷ seats) g = go (Bool·beq (p .bit) b) (h
 
 -- ## One bit
 
--- how the first message begins, and what the first message is behind that bit
+-- how the first message begins, and what the first message is after that bit
 data Head (k : ℕ) (seats : List Seat) : Type 0 where
   nobody : asked seats ≡ [] → firstAt seats ≡ [] → ((b : Bool) → firstAt (map (heard k b) seats) ≡ []) → Head k seats
   aZero : (q : Pulse) (qs : List Pulse) → asked seats ≡ q ∷ qs → onlyOnes (q ∷ qs) ≡ false

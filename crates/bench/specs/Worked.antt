@@ -1,6 +1,6 @@
 -- Definitions.
--- The contests of document 01, "Worked on paper", computed from the definitions. Each kind of starred item is a test, so that
--- the items can stand on one list with those of the other rooms; the cases that are not starred stand behind them.
+-- The rounds of document 01, "Worked on paper", computed from the definitions. Each kind of starred item is a test, so that
+-- the items can stand on one list with those of the other rooms; the cases that are not starred stand after them.
 use Prim.Native.Nat.{ℕ, _-_}
 use mathlib.Core.Path.{_≡_, refl}
 use mathlib.Core.Bool.{Bool, true, false, _&&_}

@@ -1,4 +1,4 @@
-// The contest bench: the types that callers see. What a round is, what each call answers and what it leaves behind are
+// The bench of arbitration: the types that callers see. What a round is, what each call answers and what it changes are
 // defined in specs/, in document 01's words; the code that works them out stands in the rooms above.
 use symbol::Clock;
 use units::Micros;
@@ -21,7 +21,7 @@ pub struct Station {
 }
 
 // How a place fared in a round: it held no message; its message went out whole; or it had to stop at a bit, counted from
-// 1 behind the SOF.
+// 1 after the SOF.
 pub enum Fared {
     Idle,
     Through,

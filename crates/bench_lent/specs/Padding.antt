@@ -19,7 +19,7 @@ use Rattle.bench.specs.Calls.{allSound, allEmpty}
 abbrev idle : ℕ → List Seat
 idle n = replicate n (out Idle)
 
--- One change made to two lists, one behind the other.
+-- One change made to two lists, one after the other.
 pub map-append : {A B : Type 0} (f : A → B) (x y : List A) → map f (x ++ y) ≡ map f x ++ map f y
 map-append f [] y = refl
 map-append {A} {B} f (a ∷ x) y = ap (λ (r : List B). f a ∷ r) (map-append f x y)

@@ -1,4 +1,4 @@
-// The contest bench: the calls on a lent row of stations, worked out. What each of them answers and leaves behind is
+// The bench of arbitration: the calls on a lent row of stations, worked out. What each of them answers and changes is
 // defined in `bench`, in document 01's words.
 mod row;
 

@@ -70,7 +70,7 @@ zeros-left : (a b : ℕ) → drop a (replicate {A = ℕ} (a + b) 0) ≡ replicat
 zeros-left zero b = let z : 0 + b ≡ b = omega arith in rw z
 zeros-left (suc a) b = let z : suc a + b ≡ suc (a + b) = omega arith in rw z (zeros-left a b)
 
--- bytes in front of zeros, and one byte more after them
+-- bytes before zeros, and one byte more after them
 laid : (m : List ℕ) (n c : ℕ) → length m ≡ n → n ≤ mostStored → set (m ++ drop n (replicate {A = ℕ} mostSent 0)) n c ≡ (m ++ (c ∷ [])) ++ replicate (mostStored - length m) 0
 laid m n c e h =
     let z : mostSent ≡ n + suc (mostStored - length m) = omega arith in

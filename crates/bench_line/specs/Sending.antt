@@ -24,7 +24,7 @@ use Rattle.bench_line.specs.SeatLaws.{asks-are, heard-are, asked-are, fa
 abbrev pub courseOf : Lanes → List ℕ → Course
 courseOf l lost = play mostBits false 1 (seatsAt l lost false 0)
 
--- What sending them comes to: their widths behind the opening and the SOF, no other word changed, and how each place fared.
+-- What sending them comes to: their widths after the opening and the SOF, no other word changed, and how each place fared.
 pub record SendsBits (l : Lanes) (lost lost′ old new : List ℕ) (count : ℕ) : Type 0 where
   pub counts-them : count ≡ length (courseOf l lost .widths)
   pub few : count ≤ mostBits

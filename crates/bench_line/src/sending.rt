@@ -15,7 +15,7 @@ use bench_lane::BITS_OF_BYTE;
 // The most bits of a message, with those of its check byte.
 const MOST_BITS: usize = BITS_OF_BYTE * MOST_SENT;
 
-// The words in front of the first bit: the opening and the SOF.
+// The words before the first bit: the opening and the SOF.
 pub const BEFORE_BITS: usize = 2;
 
 // Sends the bits, a word for each, until nobody asks. Answers how many there were; each place's loss stands in `lost`.

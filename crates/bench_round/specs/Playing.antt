@@ -55,7 +55,7 @@ module _ (at : List Station) (n : length at ≡ mostStations) (h : allSound at �
   unfolding course
   few-bits = omega (arith, sent .counts, course-few at)
 
-  -- the words in front of the closing end
+  -- the words before the closing end
   front : List ℕ
   front = end ∷ sof ∷ course .widths
 

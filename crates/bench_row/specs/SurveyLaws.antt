@@ -26,7 +26,7 @@ survey-one s row = go (empty s)
     go false = refl
 
 module _ (row : List Station) where
-  -- behind the last
+  -- after the last
   pub survey-start : length row ≡ mostStations → record { sound = true; empty = true; sof = 0 } ≡ surveyOf (drop mostStations row)
   unfolding allSound allEmpty sofsAsked longest
   survey-start n = fold-start surveyOf surveyBy survey-one row mostStations (omega arith)

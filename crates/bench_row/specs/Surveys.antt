@@ -14,7 +14,7 @@ use Rattle.bench_row.specs.declared.survey.Survey.{Survey}
 abbrev pub sofOf : Station → ℕ
 sofOf s = cond (empty s) 0 (s .clock .sof .0)
 
--- one station, taken in with what is known of those behind it
+-- one station, taken in with what is known of those after it
 abbrev pub surveyBy : Survey → Station → Survey
 surveyBy v s = record { sound = sound s && v .sound; empty = empty s && v .empty; sof = max (sofOf s) (v .sof) }
 

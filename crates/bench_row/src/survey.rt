@@ -64,7 +64,7 @@ fn sof_asked(station: Station) -> u32
     if station.len == 0 { 0 } else { sof.0 }
 }
 
-// One station, taken in with what is known of those behind it.
+// One station, taken in with what is known of those after it.
 fn surveyed(survey: Survey, station: Station) -> Survey
     ensures { λ r. ⌜ r ≡ surveyBy survey station ⌝ }
 {

@@ -30,7 +30,7 @@ then {a} {b} {c} {s} {t} {o} {p} {q} x y =
 pub laid-long : {a b : ℕ} {s o p : List ℕ} → Laid a s o p b → length p ≡ length o
 laid-long {a} {b} {s} {o} {p} x = ap length (x .lays) ∙ length-sets o a s
 
--- room for both is room for the first, and then room for the second
+-- space for both is space for the first, and then space for the second
 pub room-first : {a : ℕ} (s t : List ℕ) {o : List ℕ} → Room a (s ++ t) o → Room a s o
 room-first s t h = record { fits = omega (arith, h .fits, length-append s t) }
 
@@ -89,7 +89,7 @@ decimal-is n r f h = go r f (few-digits n r f h)
     go zero f l = absurd (omega arith)
     go (suc k) f l = let e : suc k - 1 ≡ k = omega arith in fewest-decimal 19 k n (omega arith) (f .1) (λ z. rw e at (f .2 (omega arith)))
 
--- the digits that were made are the numeral, and there is room for them where there is room for it
+-- the digits that were made are the numeral, and there is space for them where there is space for it
 module _ {n r : ℕ} {t : List ℕ} (f : Fewest 10 1 n r) (h : n < 18446744073709551616) (e : t ≡ digits 10 r n) where
   pub number-room : (at : ℕ) (o : List ℕ) → Room at (decimal n) o → Room at t o
   number-room at o k = rw (e ∙ decimal-is n r f h) k

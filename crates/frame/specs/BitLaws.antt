@@ -17,7 +17,7 @@ use Rattle.frame.specs.Line.{Line, bitsFrom, bitsIn}
 use Rattle.frame.specs.Faults.{checksOut, whole}
 use Rattle.frame.specs.ReadStated.{leftOver, behind}
 
--- One bit more behind them doubles the number and adds the bit.
+-- One bit more after them doubles the number and adds the bit.
 pub behind-more : (n : ℕ) (bits : List Bool) (b : Bool) → behind n (bits ++ (b ∷ [])) ≡ behind n bits * 2 + value b
 unfolding behind
 behind-more n [] b = refl

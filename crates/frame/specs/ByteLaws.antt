@@ -112,7 +112,7 @@ bytes-made (a ∷ b ∷ c ∷ d ∷ e ∷ f ∷ g ∷ h ∷ rest) = (small, byte
 
 -- ## Check bytes
 
--- A check byte that is put behind bytes is right.
+-- A check byte that is put after bytes is right.
 pub with-checks : (bs : List ℕ) → checksOut (withCheck bs) ≡ true
 with-checks bs = checks-more bs (checkOf bs) ∙ eq-eqb (checkOf bs) (checkOf bs) refl
 

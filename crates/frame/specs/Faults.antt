@@ -19,7 +19,7 @@ mostBytes = 12
 -- What the rows of the table ask of an interval's standing.
 pub record Facts : Type 0 where
   pub sofPlace : Bool  -- it is the SOF's place
-  pub inPart : Bool  -- it is the place of a bit of a byte, or of the EOD or end behind them
+  pub inPart : Bool  -- it is the place of a bit of a byte, or of the EOD or end after them
   pub responding : Bool  -- its part is the response
   pub part : List Bool  -- the bits of its part so far
   pub fewest : ℕ  -- the fewest bytes that its part may have

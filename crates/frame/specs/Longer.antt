@@ -57,7 +57,7 @@ module _ (l l' : Line) (n : ℕ) (same : (j : ℕ) → j < n → l .shows j ≡ 
   by-same : (limit o k : ℕ) → o < k → k < n → decidedBy (at k) limit l' o ≡ decidedBy (at k) limit l o
   by-same limit o k a b = rw (stands-same o k a (omega arith), same k b)
 
--- One that begins with the other: it has all its intervals, and maybe more behind them.
+-- One that begins with the other: it has all its intervals, and maybe more after them.
 module _ (limit : ℕ) (l l' : Line) (longer : l .count ≤ l' .count) (same : (j : ℕ) → j < l .count → l .shows j ≡ l' .shows j) where
   decided-stays : (o : ℕ) → goesOn (decided limit l o) ≡ true → decided limit l' o ≡ decided limit l o
   decided-stays o g = go (firstIn (decides limit l o) (o + 1) (l .count)) refl g
@@ -75,7 +75,7 @@ module _ (limit : ℕ) (l l' : Line) (longer : l .count ≤ l' .count) (same : (
           }) in
           ap (λ (x : Found). decidedBy x limit l' o) first' ∙ by-same l l' (l .count) same limit o k (omega (arith, f .from)) in'
 
-  -- A frame or a fault stays what it is, and where it is, whatever is recorded behind it.
+  -- A frame or a fault stays what it is, and where it is, whatever is recorded after it.
   pub reading-stays : (p lent : ℕ) → goesOn (readOn limit l p lent) ≡ true → readOn limit l' p lent ≡ readOn limit l p lent
   reading-stays p lent g =
       let r : OpenedBy limit l p lent (readOn limit l p lent) = opened-by limit l p lent (readOn limit l p lent) g refl in

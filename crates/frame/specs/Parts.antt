@@ -1,5 +1,5 @@
 -- Laws.
--- The parts of a frame: bits go in without a fault as long as there is room, and an EOD or end closes a complete part.
+-- The parts of a frame: bits go in without a fault as long as there is space, and an EOD or end closes a complete part.
 use Prim.Native.Nat.{ℕ, _+_, _*_, _%_, _≤_, _<_}
 use mathlib.Core.Path.{_≡_, refl, ap, _∙_}
 use mathlib.Core.Bool.{Bool, true, false, cond, not, _&&_}

@@ -1,5 +1,5 @@
 -- Laws.
--- Read-back: a frame that stands on the line, with anything before it and anything behind it, is read as the message that it
+-- Read-back: a frame that stands on the line, with anything before it and anything after it, is read as the message that it
 -- carries, whatever its widths are inside the receiving windows.
 use Prim.Native.Nat.{ℕ, _+_, _-_, _%_, _≤_, _<_}
 use mathlib.Core.Path.{_≡_, refl, sym, ap, _∙_}
@@ -196,7 +196,7 @@ reads-standing line ws main kind rs o lent f st fits adm mb rb even enough =
         }
 
 -- READ-BACK OF A WAVE. Any words that are a frame of an admitted message at widths inside the receiving windows, with anything
--- standing before them, so that they begin passive, and anything behind them, are read from their first place as that message:
+-- standing before them, so that they begin passive, and anything after them, are read from their first place as that message:
 -- both parts with their checks, the kind of response, the opening at that place, the next position at their last.
 pub reads-wave : (before ws behind main : List ℕ) (kind : Response) (rs : List ℕ) (lent : ℕ) → FrameWave main kind rs ws
     → badMessage main kind rs ≡ false → Bytes main → Bytes rs → length before % 2 ≡ 0 → mostBytes ≤ lent

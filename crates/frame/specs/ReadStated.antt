@@ -34,7 +34,7 @@ leftOver (a ∷ b ∷ c ∷ d ∷ e ∷ f ∷ []) = a ∷ b ∷ c ∷ d ∷ e �
 leftOver (a ∷ b ∷ c ∷ d ∷ e ∷ f ∷ g ∷ []) = a ∷ b ∷ c ∷ d ∷ e ∷ f ∷ g ∷ []
 leftOver (a ∷ b ∷ c ∷ d ∷ e ∷ f ∷ g ∷ h ∷ rest) = leftOver rest
 
--- a number with the bits behind it: a partial byte is kept as its bits behind a leading 1
+-- a number with the bits after it: a partial byte is kept as its bits after a leading 1
 unfoldable pub behind : ℕ → List Bool → ℕ
 behind n [] = n
 behind n (b ∷ bits) = behind (n * 2 + value b) bits
@@ -50,12 +50,12 @@ abbrev pub NoneHolds : List Row → Type 0
 NoneHolds [] = Unit {0}
 NoneHolds (r ∷ rs) = (¬ (r .when .Holds)) × NoneHolds rs
 
--- No interval behind the opening o and before k is at fault, and none of them is an end.
+-- No interval after the opening o and before k is at fault, and none of them is an end.
 pub record Undecided (limit : ℕ) (l : Line) (o k : ℕ) : Type 0 where
   pub no-fault : (j : ℕ) → o < j → j < k → faultAt limit l o j ≡ 0
   pub no-end : (j : ℕ) → o < j → j < k → endAt l j ≡ false
 
--- k lies behind the opening o and in the recording, and no interval before it decides the frame.
+-- k lies after the opening o and in the recording, and no interval before it decides the frame.
 pub record Earliest (limit : ℕ) (l : Line) (o k : ℕ) : Type 0 where
   pub behind : o < k
   pub inside : k < l .count

@@ -29,7 +29,7 @@ decided-on limit l o x (isUnfinished u) g = never g refl
 decided-on limit l o x (isGood e f h) g = (e .behind, e .inside)
 decided-on limit l o x (isFaulty e h) g = (e .behind, e .inside)
 
--- The next position of a frame or a fault lies behind the position that was read from, and in the recording.
+-- The next position of a frame or a fault lies after the position that was read from, and in the recording.
 pub progress : (limit : ℕ) (l : Line) (p lent : ℕ) → goesOn (readOn limit l p lent) ≡ true
     → (p < nextOf (readOn limit l p lent)) × (nextOf (readOn limit l p lent) < l .count)
 progress limit l p lent g =

@@ -49,7 +49,7 @@ bytes-more bits b = go (one-more bits b)
     go (isLeft s e f) = rw e (omega arith)
     go (isWhole n s e f) = rw e (omega (arith, length-append (bytes bits) (n ∷ [])))
 
--- A bit that is at no fault finds room for its byte.
+-- A bit that is at no fault finds space for its byte.
 room : (limit : ℕ) (st : Standing) (b : Bool) → facts st .sofPlace ≡ false → facts st .inPart ≡ true → fault limit st (bit b) ≡ 0
     → ¬ (length (mainBytes st ++ responseBytes st) ≡ limit)
 unfolding fault

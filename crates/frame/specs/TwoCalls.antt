@@ -53,7 +53,7 @@ wrote c main kind rs lent n e = go (goodOf c) (badMessage main kind rs) (ltb len
     go true false true p q r = let z : _≡_ {A = ℕ} 0 32 = ap (λ x. x .number) (rw (p, q, r) at e) in absurd (omega arith)
     go true false false p q r = record { good-clock = p; admitted = q; sheet = rw (p, q, r) }
 
--- A message is written into lent words, and the lent words, whatever stands behind the frame in them, are read from the
+-- A message is written into lent words, and the lent words, whatever stands after the frame in them, are read from the
 -- start: the answer is a frame with the message's own lengths, kind and places, and its bytes stand first in the lent bytes.
 pub write-then-read : (c : Clock) (main : List ℕ) (kind : Response) (rs : List ℕ) (entry exit : List ℕ) (n : ℕ)
     → WritePromise c main kind rs entry exit (Words n) → Bytes main → Bytes rs

@@ -29,12 +29,12 @@ level-turns i = go (activeAt i) refl
         let odd : ¬ (i % 2 ≡ 1) = eqb-false (i % 2) 1 e in
         eq-eqb ((i + 1) % 2) 1 (omega arith)
 
--- the level behind a row of intervals
+-- the level after a row of intervals
 abbrev pub turned : {A : Type 0} → Bool → List A → Bool
 turned active [] = active
 turned active (x ∷ xs) = turned (not active) xs
 
--- A wave and a wave behind it are a wave.
+-- A wave and a wave after it are a wave.
 pub wave-append : {active : Bool} {a b : List Symbol} {ws vs : List ℕ} → Wave active a ws → Wave (turned active a) b vs → Wave active (a ++ b) (ws ++ vs)
 wave-append still v = v
 wave-append (pulse h w) v = pulse h (wave-append w v)
@@ -51,7 +51,7 @@ abbrev pub Stand : List ℕ → ℕ → List ℕ → Type 0
 Stand ws i [] = Unit {0}
 Stand ws i (v ∷ vs) = (getD ws i 0 ≡ v) × Stand ws (i + 1) vs
 
--- Words that stand behind others stand from their number on.
+-- Words that stand after others stand from their number on.
 pub stands-behind : (before vs after : List ℕ) → Stand (before ++ (vs ++ after)) (length before) vs
 stands-behind before [] after = tt
 stands-behind before (v ∷ vs) after =
@@ -68,14 +68,14 @@ wave-carries ws i still e h = tt
 wave-carries ws i (pulse {active} {s} {w} k v) e h =
     (rw (e, h .0) (class-only active s w k), wave-carries ws (i + 1) v (level-turns i ∙ ap not e) (h .1))
 
--- Symbols and symbols behind them, carried by the places behind.
+-- Symbols and symbols after them, carried by the places that follow.
 pub carry-append : (ws : List ℕ) (i : ℕ) (a b : List Symbol) → Carry ws i a → Carry ws (i + length a) b → Carry ws i (a ++ b)
 carry-append ws i [] b c d = rw (add-zero i) at d
 carry-append ws i (s ∷ a) b c d =
     let n : i + suc (length a) ≡ i + 1 + length a = omega arith in
     (c .0, carry-append ws (i + 1) a b (c .1) (rw n at d))
 
--- Widths and widths behind them, held by the places behind.
+-- Widths and widths after them, held by the places that follow.
 pub stand-append : (ws : List ℕ) (i : ℕ) (a b : List ℕ) → Stand ws i (a ++ b) → Stand ws i a × Stand ws (i + length a) b
 stand-append ws i [] b h = (tt, rw (add-zero i) h)
 stand-append ws i (v ∷ a) b h =

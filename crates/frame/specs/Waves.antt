@@ -1,6 +1,6 @@
 -- Definitions.
 -- A frame on the line at any widths: what is meant at each interval, and widths that lie in the receiving windows of what is
--- meant. The writer's words are such a wave for every good clock, and so is the line of a contest.
+-- meant. The writer's words are such a wave for every good clock, and so is the line of a round.
 use Prim.Native.Nat.{ℕ, _≤_}
 use mathlib.Core.Path.{_≡_}
 use mathlib.Core.Bool.{Bool, true, not}
@@ -28,7 +28,7 @@ bitSymbols bits = map bitSymbol bits
 abbrev pub byteSymbols : List ℕ → List Symbol
 byteSymbols bs = bitSymbols (bitsOf bs)
 
--- what a response puts behind the main part: an EOD, a normalization bit, "short: no check byte; long: check byte last", bytes
+-- what a response puts after the main part: an EOD, a normalization bit, "short: no check byte; long: check byte last", bytes
 abbrev pub responseSymbols : Response → List ℕ → List Symbol
 responseSymbols Without rs = []
 responseSymbols Plain rs = Eod ∷ Bit1 ∷ byteSymbols rs

@@ -31,7 +31,7 @@ unfolding bitWidths bitsOf
 byte-widths-length c [] = refl
 byte-widths-length c (b ∷ bs) = let ih = byte-widths-length c bs in omega arith
 
--- The widths of bytes and of bytes behind them.
+-- The widths of bytes and of bytes after them.
 pub byte-widths-append : (c : Clock) (rs bs : List ℕ) → byteWidths c (rs ++ bs) ≡ byteWidths c rs ++ byteWidths c bs
 unfolding bitWidths bitsOf
 byte-widths-append c [] bs = refl
@@ -90,7 +90,7 @@ module _ (main : List ℕ) (rs : List ℕ) where
   some : 0 < length main → eqb (length main) 0 ≡ false
   some h = ne-eqb (length main) 0 (λ e. omega arith)
 
-  -- so is one that leaves no room for its own check byte
+  -- so is one that leaves no space for its own check byte
   pub bad-long : (kind : Response) → mostBytes ≤ length main → badMessage main kind rs ≡ true
   unfolding badMessage
   bad-long kind h =
@@ -103,7 +103,7 @@ module _ (main : List ℕ) (rs : List ℕ) where
   unfolding badMessage
   bad-without p h = rw (some p, le-ltb mostBytes (length (withCheck main) + 0) (omega (arith, with-check-length main)))
 
-  -- with a plain response, and with a checked one, it goes by the room that the main part and its check byte leave
+  -- with a plain response, and with a checked one, it goes by the space that the main part and its check byte leave
   pub bad-plain : 0 < length main → length main < mostBytes
       → badMessage main Plain rs ≡ (eqb (length rs) 0 || ltb (mostBytes - 1 - length main) (length rs))
   unfolding badMessage
@@ -114,7 +114,7 @@ module _ (main : List ℕ) (rs : List ℕ) where
             (λ x. omega (arith, with-check-length main)) (λ x. omega (arith, with-check-length main)),
       )
 
-  -- the same for a checked one, whose own check byte takes room too
+  -- the same for a checked one, whose own check byte takes space too
   pub bad-checked : 0 < length main → length main < mostBytes
       → badMessage main Checked rs ≡ (eqb (length rs) 0 || leb (mostBytes - 1 - length main) (length rs))
   unfolding badMessage

@@ -25,7 +25,7 @@ unfoldable pub sentWidths : Clock → Bool → List Symbol → List ℕ
 sentWidths c active [] = []
 sentWidths c active (s ∷ symbols) = widthOf (sentOf c active s) ∷ sentWidths c (not active) symbols
 
--- The widths of symbols and of symbols behind them.
+-- The widths of symbols and of symbols after them.
 pub sent-append : (c : Clock) (active : Bool) (a b : List Symbol) → sentWidths c active (a ++ b) ≡ sentWidths c active a ++ sentWidths c (turned active a) b
 unfolding sentWidths
 sent-append c active [] b = refl
@@ -48,7 +48,7 @@ unfolding sentWidths bitWidths
 bits-sent c active [] = refl
 bits-sent c active (b ∷ bits) = rw (bit-sent c active b, bits-sent c (not active) bits)
 
--- Behind whole bytes the level is what it was before them.
+-- After whole bytes the level is what it was before them.
 pub level-back : (active : Bool) (bs : List ℕ) → turned active (byteSymbols bs) ≡ active
 unfolding bitsOf
 level-back active [] = refl

@@ -110,7 +110,7 @@ pub record WrittenAgain (ws : List ℕ) (f : Good) : Type 0 where
 abbrev pub mainTaken : Lengths → List ℕ → List ℕ
 mainTaken lengths lent = take (lengths .main - 1) lent
 
--- the response, which stands behind the main part
+-- the response, which stands after the main part
 abbrev pub responseTaken : Response → Lengths → List ℕ → List ℕ
 responseTaken Without lengths lent = []
 responseTaken Plain lengths lent = take (lengths .response) (drop (lengths .main) lent)

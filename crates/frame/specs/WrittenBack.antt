@@ -64,7 +64,7 @@ module _ (c : Clock) (g : Good c) where
       }
 
 -- DEMAND 2, FIRST THEOREM. For every admitted message and every clock in the sending windows, what the writer writes, with
--- anything standing before it, so that it begins passive, and anything behind it, is read from its first place as that message:
+-- anything standing before it, so that it begins passive, and anything after it, is read from its first place as that message:
 -- both parts with their checks, the kind of response, the opening at its first word and the next position at its last.
 pub reads-written : (c : Clock) (before behind main : List ℕ) (kind : Response) (rs : List ℕ) (lent : ℕ) → goodOf c ≡ true
     → badMessage main kind rs ≡ false → Bytes main → Bytes rs → length before % 2 ≡ 0 → mostBytes ≤ lent

@@ -82,7 +82,7 @@ bit-part limit st b row few more = go (eq-or-lt-of-le few)
 
 -- ## In each part
 
--- the bytes of the main part alone, with no response behind them
+-- the bytes of the main part alone, with no response after them
 alone : (bs : List ℕ) → bs ++ bytes [] ≡ bs
 unfolding bytes
 alone bs = append-nil bs

@@ -44,7 +44,7 @@ last-off bs h =
     let n : suc (length bs - 1) ≡ length bs = omega arith in
     sym (take-length bs) ∙ ap (λ (k : ℕ). take k bs) (sym n) ∙ take-suc bs (length bs - 1) 0 (omega arith)
 
--- the last byte c behind the others: it is their check byte exactly where the register comes to 0xC4
+-- the last byte c after the others: it is their check byte exactly where the register comes to 0xC4
 last-judged : (bs : List ℕ) (c : ℕ) → c < 256 → eqb c (checkOf bs) ≡ eqb (registerOf (bs ++ (c ∷ []))) residue
 last-judged bs c small = go (eqb c (checkOf bs)) refl
   where

@@ -30,12 +30,12 @@ faulty m f = record { machine = m; event = Faulty f }
 abbrev pub closing : Machine → Stepped
 closing m = record { machine = m; event = Closed }
 
--- the next part begins behind the interval, with a register of its own
+-- the next part begins after the interval, with a register of its own
 abbrev pub begun : Machine → Phase → Stepped
 begun m p =
     record { machine = record { phase = p; partial = 1; count = m .count; began = m .count; register = allOnes }; event = Going }
 
--- a bit of a byte: `bits` are those of the byte so far, behind their leading 1
+-- a bit of a byte: `bits` are those of the byte so far, after their leading 1
 abbrev pub pushed : Machine → ℕ → Stepped
 pushed m bits =
     cond (ltb bits 256)
@@ -76,7 +76,7 @@ sofPhase Checked = false
 unfoldable pub bitOf : (limit : ℕ) → Machine → Bool → Stepped
 bitOf limit m one = cond (partOf (m .phase)) (pushOf limit m one) (cond (sofPhase (m .phase)) (faulty m NoSof) (responseBegun m one))
 
--- the SOF's width: the SOF, or a fault anywhere behind it
+-- the SOF's width: the SOF, or a fault anywhere after it
 unfoldable pub sofOf : Machine → Stepped
 sofOf m = cond (sofPhase (m .phase)) (begun m Main) (faulty m LateSof)
 

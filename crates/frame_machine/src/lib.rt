@@ -26,7 +26,7 @@ pub enum Phase {
     Checked,
 }
 
-// What is known of a frame between two intervals: the bits of a byte that is not whole yet, behind a leading 1; the check
+// What is known of a frame between two intervals: the bits of a byte that is not whole yet, after a leading 1; the check
 // register over this part; and how many bytes both parts have so far, and how many of them stand before this part.
 pub struct Machine {
     pub phase: Phase,
@@ -96,7 +96,7 @@ fn fail(machine: Machine, fault: Fault) -> Stepped
     }
 }
 
-// The next part begins behind the interval, with a register of its own.
+// The next part begins after the interval, with a register of its own.
 fn begin(machine: Machine, phase: Phase) -> Stepped
     ensures { λ r. ⌜ r ≡ begun machine phase ⌝ }
 {
@@ -200,7 +200,7 @@ fn bit(limit: usize, machine: Machine, one: bool) -> Stepped
     begin_response(machine, one)
 }
 
-// The SOF's width: the SOF, or a fault anywhere behind it.
+// The SOF's width: the SOF, or a fault anywhere after it.
 fn sof(machine: Machine) -> Stepped
     ensures { λ r. ⌜ r ≡ sofOf machine ⌝ }
 {

@@ -15,7 +15,7 @@ pub struct Parts {
     pub response: Response,
 }
 
-// How many of the bytes stand behind the first ones.
+// How many of the bytes stand after the first ones.
 fn past(count: usize, began: usize) -> usize
     ensures { λ r. ⌜ r ≡ count - began ⌝ }
 {

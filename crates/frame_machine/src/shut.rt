@@ -1,4 +1,4 @@
-// The EOD or the end behind a part: whether the part may be closed there, and what follows.
+// The EOD or the end after a part: whether the part may be closed there, and what follows.
 ghost use mathlib.Core.Path.{_≡_};
 ghost use mathlib.Core.Bool.{_&&_, not};
 ghost use Prim.Native.Nat.{_+_};
@@ -78,7 +78,7 @@ fn too_few(count: usize, began: usize, fewest: usize) -> bool
     count - fewest < began
 }
 
-// What follows an EOD that is not at fault itself: a response behind the main part, and nothing behind a response.
+// What follows an EOD that is not at fault itself: a response after the main part, and nothing after a response.
 fn behind_eod(machine: Machine) -> Stepped
     ensures { λ r. ⌜ r ≡ eodOf machine ⌝ }
 {

@@ -20,7 +20,7 @@ use Rattle.frame_read.specs.declared.Found.{Found}
 use Rattle.frame_read.specs.declared.Found.the-variants.{At, Nowhere}
 use Rattle.frame_read.specs.Answering.{foundBy}
 
--- the first place is this one, or the first behind it
+-- the first place is this one, or the first after it
 first-here : (test : ℕ → Bool) (i n : ℕ) (b : Bool) → i < n → test i ≡ b → firstIn test i n ≡ cond b (at i) (firstIn test (i + 1) n)
 unfolding first
 first-here test i n b h e = let m : n - i ≡ suc (n - (i + 1)) = omega arith in rw (m, e)

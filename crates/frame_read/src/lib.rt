@@ -56,7 +56,7 @@ fn framed(machine: Machine, opening: usize, closing: usize) -> Reading
     }
 }
 
-// The frame that opens at a place with an interval behind it: the first interval that is at fault or closes it decides.
+// The frame that opens at a place with an interval after it: the first interval that is at fault or closes it decides.
 fn read_open(intervals: &[u32], opening: usize, lent: &mut [u8]) -> Reading
     requires { ⌜ opening < length (now intervals) ⌝ }
     requires { ⌜ mostBytes ≤ length (now lent) ⌝ }
@@ -96,7 +96,7 @@ fn read_open(intervals: &[u32], opening: usize, lent: &mut [u8]) -> Reading
     }
 }
 
-// Reading from a position where the opening is found: quiet, if no interval stands behind it.
+// Reading from a position where the opening is found: quiet, if no interval stands after it.
 fn read_found(intervals: &[u32], from: usize, opening: usize, lent: &mut [u8]) -> Reading
     requires { ⌜ opening < length (now intervals) ⌝ }
     requires { ⌜ mostBytes ≤ length (now lent) ⌝ }

@@ -94,10 +94,10 @@ checked-room c kind rs at n e h =
     response-widths-length c kind rs ∙ ap (λ (k : Response). responseWords k (length rs)) e in
     omega arith
 
--- ## A frame, while its parts are laid: the room for each, and the whole of them
+-- ## A frame, while its parts are laid: the space for each, and the whole of them
 
 module _ (c : Clock) (main : List ℕ) (kind : Response) (rs l : List ℕ) (enough : length (frameWords c main kind rs) ≤ length l) where
-  -- the opening and the SOF have room
+  -- the opening and the SOF have space
   pub head-room : 2 ≤ length l
   head-room = omega (arith, frame-words-length c main kind rs)
 

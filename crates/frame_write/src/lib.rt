@@ -61,7 +61,7 @@ fn bad_message(main: &[u8], kind: Response, response: &[u8]) -> bool
     }
 }
 
-// Whether a response of so many bytes is empty, or too long for the room that the main part leaves.
+// Whether a response of so many bytes is empty, or too long for the space that the main part leaves.
 fn bad_response(response: usize, room: usize) -> bool
     ensures { λ r. ⌜ r ≡ eqb response 0 || ltb room response ⌝ }
 {

@@ -20,7 +20,7 @@ use Rattle.live.specs.declared.Live.{Live}
 use Rattle.live.specs.AnyReader.{held-few}
 use Rattle.live.specs.Feeding.{heldBy, fedBy, laidBy, stepAt, endsAt}
 
--- twelve lent bytes have room for all that a reader holds
+-- twelve lent bytes have space for all that a reader holds
 pub laid-held : (i : Inside) (lent : List ℕ) → mostBytes ≤ length lent → laidOf (heldBy i .count) (i .kept) lent ≡ laid (heldBy i .count) (i .kept) lent
 laid-held i lent h = laid-enough (heldBy i .count) (i .kept) lent (held-few i) (omega (arith, h, held-few i))
 

@@ -46,7 +46,7 @@ abbrev pub least : ℕ → ℕ → ℕ
 least a b = cond (leb a b) a b
 
 -- What the frame machine holds in a reader. Whatever the reader's bytes are, it counts no more bytes than a frame has, and
--- no part begins behind them.
+-- no part begins after them.
 unfoldable pub heldBy : Inside → Machine
 heldBy i =
     record {
@@ -64,7 +64,7 @@ started =
 
 -- ## One interval
 
--- The reader behind an interval outside of a frame, or one that ends a frame: "A closing end may thus open the next frame", and
+-- The reader after an interval outside of a frame, or one that ends a frame: "A closing end may thus open the next frame", and
 -- so may an end at fault.
 unfoldable pub beginsAnew : Live → (from : ℕ) → (end : Bool) → Live
 beginsAnew v from true =
@@ -72,7 +72,7 @@ beginsAnew v from true =
 beginsAnew v from false =
     record { places = behind (v .places) from (v .places .opening); inside = outside (v .inside .kept) }
 
--- the reader behind an interval that leaves its frame open
+-- the reader after an interval that leaves its frame open
 unfoldable pub goesOn : Live → Machine → (kept : List ℕ) → Live
 goesOn v m kept = record { places = behind (v .places) (v .places .from) (v .places .opening); inside = insideOf m kept }
 
@@ -142,7 +142,7 @@ laidBy (Byte b) i lent = lent
 laidBy Closed i lent = laid (heldBy i .count) (i .kept) lent
 laidBy (Faulty f) i lent = lent
 
--- the lent bytes behind an interval of the width w
+-- the lent bytes after an interval of the width w
 unfoldable pub lentOf : Live → (w : ℕ) → List ℕ → List ℕ
 lentOf v w lent =
     cond (not (eqb (v .places .full) 0)) lent
@@ -152,7 +152,7 @@ lentOf v w lent =
 
 -- ## Asking
 
--- "at the moment of asking": quiet where there is no opening, or no interval behind it, and otherwise unfinished
+-- "at the moment of asking": quiet where there is no opening, or no interval after it, and otherwise unfinished
 unfoldable pub askedOf : Live → Asked
 askedOf v =
     cond (leb (v .inside .phase) (phaseNumber Sof)) (Quiet (longPlace (v .places .from))) (Unfinished (longPlace (v .places .opening)))

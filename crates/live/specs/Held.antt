@@ -39,7 +39,7 @@ insideOf m kept =
 unfoldable pub outside : List ℕ → Inside
 outside kept = record { count = 0; began = 0; kept = kept; phase = noFrame; partial = 0; register = 0 }
 
--- the places behind an interval, with the position from which reading goes on and the opening
+-- the places after an interval, with the position from which reading goes on and the opening
 unfoldable pub behind : Places → (from opening : ℕ) → Places
 behind p from opening =
     record {

@@ -41,7 +41,7 @@ all-enough (hearing i ∷ cs) v = go (isTaken v i) refl (all-enough cs (afterOne
     go true e k l = also (taken-enough v i e) k
     go false e k l = l
 
--- The reader behind a history is the one behind the intervals that were not refused.
+-- The reader after a history is the one after the intervals that were not refused.
 pub after-calls : (cs : List Call) (v : Live) → afterCalls v cs ≡ afterAll v (takenIn v cs)
 after-calls [] v = refl
 after-calls (asking ∷ cs) v = after-calls cs v

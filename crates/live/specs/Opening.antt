@@ -59,7 +59,7 @@ counts-on n p from opening e h = go (eq-or-lt-of-le h)
 
 -- ## A frame begins
 
--- Behind an interval at k that no frame goes on with: where it is an end it opens a frame, and nothing of it is heard yet;
+-- After an interval at k that no frame goes on with: where it is an end it opens a frame, and nothing of it is heard yet;
 -- otherwise there is no opening yet.
 module _ (l : Line) (k : ℕ) (long : l .count ≡ k + 1) (v : Live) (at-k : v .places .next ≡ k) (has-room : mostBytes ≤ length (v .inside .kept)) where
   pub begins : (from : ℕ) → from ≤ k → firstIn (endAt l) from k ≡ nowhere → (b : Bool) → endAt l k ≡ b

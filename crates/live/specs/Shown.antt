@@ -36,11 +36,11 @@ pub record Shown : Type 0 where
   pub told : Told
   pub bytes : List ℕ
 
--- the reader behind an interval
+-- the reader after an interval
 abbrev pub afterOne : Live → Comes → Live
 afterOne v i = fedOf v (i .width) (length (i .lent)) .live
 
--- behind some, one after the other
+-- after several, in turn
 abbrev pub afterAll : Live → List Comes → Live
 afterAll v [] = v
 afterAll v (i ∷ is) = afterAll (afterOne v i) is
@@ -78,7 +78,7 @@ abbrev pub showsIn : Live → List (List Comes) → List Shown
 showsIn v [] = []
 showsIn v (d ∷ ds) = showsAll v d ++ showsIn (afterAll v d) ds
 
--- the reader behind them
+-- the reader after them
 abbrev pub afterIn : Live → List (List Comes) → Live
 afterIn v [] = v
 afterIn v (d ∷ ds) = afterIn (afterAll v d) ds
@@ -98,12 +98,12 @@ pub data Call : Type 0 where
   hearing : Comes → Call
   asking : Call
 
--- the reader behind a call
+-- the reader after a call
 abbrev pub afterCall : Live → Call → Live
 afterCall v (hearing i) = afterOne v i
 afterCall v asking = v
 
--- behind some, one after the other
+-- after several, in turn
 abbrev pub afterCalls : Live → List Call → Live
 afterCalls v [] = v
 afterCalls v (c ∷ cs) = afterCalls (afterCall v c) cs

@@ -27,7 +27,7 @@ use Rattle.live.specs.Shown.{Comes, recording, Enough, none, also, Shown
 
 -- ## Intervals one after the other
 
--- The bytes that an answer tells of are those that stand first in the lent bytes behind it.
+-- The bytes that an answer tells of are those that stand first in the lent bytes after it.
 stands-first : (x : Outcome) (entry : List ℕ) → shown (lentAfter x entry) (tells x) ≡ reads x
 stands-first (good f) entry =
     ap (λ (l : List ℕ). record { told = tells (good f); bytes = l })

@@ -1,5 +1,5 @@
 // The frame machine in a live reader: what it holds is taken out of the reader's numbers before an interval, and put back
-// behind it. Whatever the numbers are, some machine is taken out, so that no caller has to vouch for a reader.
+// after it. Whatever the numbers are, some machine is taken out, so that no caller has to vouch for a reader.
 ghost use mathlib.Core.Path.{_≡_};
 ghost use Rattle.live.specs.Feeding.{phaseBy, least as leastOf, heldBy};
 ghost use Rattle.live.specs.Held.{phaseNumber, insideOf, outside as outsideOf};

@@ -66,7 +66,7 @@ pub enum Heard {
     FewLentBytes,
 }
 
-// The reader behind an interval, and what the interval answers.
+// The reader after an interval, and what the interval answers.
 pub struct Fed {
     pub heard: Heard,
     pub live: Live,

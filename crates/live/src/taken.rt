@@ -1,4 +1,4 @@
-// One interval that is not refused: where the reader stands behind it, and what it answers.
+// One interval that is not refused: where the reader stands after it, and what it answers.
 ghost use mathlib.Core.Path.{_≡_};
 ghost use Prim.Native.Nat.{_≤_};
 ghost use lib.ListN.{length};
@@ -32,7 +32,7 @@ fn active_at(place: u64) -> bool
     place % 2 == 1
 }
 
-// The places behind an interval. Behind the last place there is none to count on to.
+// The places after an interval. After the last place there is none to count on to.
 fn behind(places: Places, from: u64, opening: u64) -> Places
     ensures { λ r. ⌜ r ≡ behindOf places from opening ⌝ }
 {
@@ -53,7 +53,7 @@ fn behind(places: Places, from: u64, opening: u64) -> Places
     }
 }
 
-// Behind an interval that stands in no frame, or that ends one: an end opens the next frame.
+// After an interval that stands in no frame, or that ends one: an end opens the next frame.
 fn begins_anew(live: Live, from: u64, end: bool) -> Live
     ensures { λ r. ⌜ r ≡ beginsAnew live from end ⌝ }
 {
@@ -74,7 +74,7 @@ fn begins_anew(live: Live, from: u64, end: bool) -> Live
     }
 }
 
-// Behind an interval that leaves its frame open.
+// After an interval that leaves its frame open.
 fn goes_on(live: Live, machine: Machine, kept: [u8; MOST_BYTES]) -> Live
     ensures { λ r. ⌜ r ≡ goesOn live machine kept ⌝ }
 {
@@ -147,7 +147,7 @@ pub(crate) fn outside_frame(live: Live, width: Micros) -> Fed
 }
 
 // An interval in a frame: one step of the frame machine. Until the frame is closed its bytes stay in the reader, which has
-// room for each that the machine tells of.
+// space for each that the machine tells of.
 pub(crate) fn inside_frame(live: Live, width: Micros, lent: &mut [u8]) -> Fed
     requires { ⌜ mostBytes ≤ length (now lent) ⌝ }
     ensures { λ r. ⌜ r ≡ fedBy (stepAt live (width .0) .event) live (stepAt live (width .0) .machine) (endsAt live (width .0)) ⌝ }

@@ -66,7 +66,7 @@ getD-any (x ∷ l) (suc i) d e h = getD-any l i d e (omega arith)
 
 -- f of a list, made from its end by g
 module _ {A B : Type 0} (f : List A → B) (g : B → A → B) (one : (x : A) (xs : List A) → g (f xs) x ≡ f (x ∷ xs)) (l : List A) where
-  -- behind the last nothing is left
+  -- after the last nothing is left
   pub fold-start : (n : ℕ) → length l ≤ n → f [] ≡ f (drop n l)
   fold-start n h = ap f (sym (drop-of-length-le l h))
 

@@ -1,5 +1,5 @@
 -- Definitions.
--- What the open call from samples to intervals answers and leaves behind: document 01, "From volts to intervals" and "When a
+-- What the open call from samples to intervals answers and changes: document 01, "From volts to intervals" and "When a
 -- call is turned away".
 use Prim.Native.Nat.{ℕ, _+_}
 use mathlib.Core.Path.{_≡_}

@@ -47,7 +47,7 @@ fn finite(volts: f32) -> bool
     }
 }
 
-// Whether a gate can judge samples: three finite numbers, and room between the passive level and the active one.
+// Whether a gate can judge samples: three finite numbers, and space between the passive level and the active one.
 pub fn good_gate(gate: Gate) -> bool
     ensures { λ r. ⌜ r ≡ goodGate gate ⌝ }
 {

@@ -1,6 +1,6 @@
 -- Laws.
 -- What proofs that walk a function by hand share.
---     Locals E os      the cells of a function's locals, local 0 first: each holds a value, or is room
+--     Locals E os      the cells of a function's locals, local 0 first: each holds a value, or is empty
 --     Opened E k os    the same while the cell of local k is held otherwise, as the cells of an array's elements
 --     allocs-all       the locals are allocated, and stand in the order of the source
 --     frees-all        they are freed, whatever they hold
@@ -48,7 +48,7 @@ envOf [] bs = []
 envOf (l ∷ ls) bs = (typeOf l, bs .0) ∷ envOf ls (bs .1)
 
 module _ {M : Type 1} {𝓤 : URA M} where
-  -- the cells of the locals, local 0 first. A list that is too short stands for room
+  -- the cells of the locals, local 0 first. A list that is too short stands for empty cells
   abbrev pub Locals : List (Ty × ℕ) → List (Option Val) → List (Item 𝓤) → List (Item 𝓤)
   Locals [] os Γ = Γ
   Locals (e ∷ E) [] Γ = ‵ (froom (e .0) (e .1) 0) ∷ ‵ (fdies (e .0) (e .1)) ∷ Locals E [] Γ
@@ -67,7 +67,7 @@ module _ {M : Type 1} (𝓤 : URA M) (H : Heap 𝓤) (A : Atoms 𝓤) (W : Given
   under : (k : Item 𝓤) (Γ Δ : List (Item 𝓤)) → ent 𝓤 (⋆ 𝓤 H A Γ) (⋆ 𝓤 H A Δ) → ent 𝓤 (⋆ 𝓤 H A (k ∷ Γ)) (⋆ 𝓤 H A (k ∷ Δ))
   under k Γ Δ h = via 𝓤 (sep 𝓤 (mean 𝓤 H A k) (⋆ 𝓤 H A Γ)) (pop 𝓤 H A k Γ) (via 𝓤 (sep 𝓤 (mean 𝓤 H A k) (⋆ 𝓤 H A Δ)) (monoR 𝓤 (mean 𝓤 H A k) h) (push 𝓤 H A k Δ))
 
-  -- what stands behind the room of the locals comes to the front
+  -- what stands after the empty locals comes first
   forward : (E : Env 𝓤 H) (i j : Item 𝓤) (Γ : List (Item 𝓤)) → ent 𝓤 (⋆ 𝓤 H A (Locals E [] (i ∷ j ∷ Γ))) (⋆ 𝓤 H A (i ∷ j ∷ Locals E [] Γ))
   forward [] i j Γ = id⊢ 𝓤 _
   forward (e ∷ E) i j Γ =

@@ -1,4 +1,4 @@
--- `bench_calls::loaded` meets its contract: the message is copied in front of what was stored.
+-- `bench_calls::loaded` meets its contract: the message is copied over the first of what was stored.
 use native.Mathlib.Omega.{arith}
 use lib.Seq.{take-length}
 use Rattle.bench_row.specs.Whole.{whole}

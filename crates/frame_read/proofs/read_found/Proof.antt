@@ -1,4 +1,4 @@
--- `frame_read::read_found` meets its contract: an opening with nothing behind it, or the frame that opens there.
+-- `frame_read::read_found` meets its contract: an opening with nothing after it, or the frame that opens there.
 use Rattle.frame.specs.Line.{single}
 use Rattle.frame_read.proofs.Answers.{alone-meets, followed-meets}
 use borrow.Author.Needs.{needs}

@@ -1,4 +1,4 @@
--- `bench_line::frame_of` meets its contract: the bytes are copied in front, the check byte stands behind them.
+-- `bench_line::frame_of` meets its contract: the bytes are copied first, and the check byte stands after them.
 use mathlib.Core.Path.{sym}
 use native.Mathlib.Omega.{arith}
 use lib.Seq.{length-take-le}

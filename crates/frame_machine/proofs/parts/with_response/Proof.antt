@@ -1,4 +1,4 @@
--- `frame_machine::with_response` meets its contract: the response's bytes are those behind where its part begins.
+-- `frame_machine::with_response` meets its contract: the response's bytes are those from where its part begins on.
 use borrow.Author.Needs.{needs}
 use Rattle.frame_machine.proofs.parts.with_response.Statement.{statement}
 use Rattle.frame_machine.proofs.parts.with_response.Tie as tie

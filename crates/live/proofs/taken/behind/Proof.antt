@@ -1,4 +1,4 @@
--- `live::behind` meets its contract: one place on, and behind the last none.
+-- `live::behind` meets its contract: one place on, and after the last none.
 use borrow.Author.Tests.{eq-eqb, ne-eqb}
 use Rattle.live.specs.Held.{behind}
 use borrow.Author.Needs.{needs}
