@@ -14,7 +14,7 @@ use Rattle.bench.specs.declared.Station.{Station}
 use Rattle.bench.specs.declared.Fared.the-variants.{Idle}
 use Rattle.bench.specs.Stations.{Bits, bitsSent, stored, empty, waitingAt}
 use Rattle.bench.specs.Order.{ahead, sameBits}
-use Rattle.bench.specs.OrderLaws.{equal-or-behind, ahead-differs, same-refl, different-same}
+use Rattle.bench.specs.OrderLaws.{equal-or-ahead, ahead-differs, same-refl, different-same}
 use Rattle.bench.specs.Contest.{emptied, afterFare, afterFares}
 use Rattle.bench.specs.Calls.{Call, load, withdraw, setClock, round, taken, loaded, clocked, done, after}
 use Rattle.bench.specs.Histories.{waiting}
@@ -64,13 +64,13 @@ away-same c row e = rw e
 -- ## A round
 
 -- none of the messages is ahead of w
-abbrev Behind : Bits → List Bits → Type 0
-Behind w [] = Unit {0}
-Behind w (x ∷ xs) = (ahead x w ≡ false) × Behind w xs
+abbrev NotAhead : Bits → List Bits → Type 0
+NotAhead w [] = Unit {0}
+NotAhead w (x ∷ xs) = (ahead x w ≡ false) × NotAhead w xs
 
-behind : (w : Bits) (xs : List Bits) → ((i : ℕ) → ahead (getD xs i []) w ≡ false) → Behind w xs
-behind w [] h = tt
-behind w (x ∷ xs) h = (h 0, behind w xs (λ i. h (suc i)))
+not-ahead : (w : Bits) (xs : List Bits) → ((i : ℕ) → ahead (getD xs i []) w ≡ false) → NotAhead w xs
+not-ahead w [] h = tt
+not-ahead w (x ∷ xs) h = (h 0, not-ahead w xs (λ i. h (suc i)))
 
 none-before : (xs : List Bits) (i : ℕ) → ahead (getD xs i []) (first xs) ≡ false
 unfolding ahead
@@ -102,9 +102,9 @@ fared-waits w s a = go (empty s) refl
 
     go : (t : Bool) → empty s ≡ t → waitingAt (afterFare (cond t Idle (against 1 w m)) s) ≡ cond (sameBits (cond t [] m) w) [] (cond t [] m)
     go true e = rw e (nowhere (sameBits [] w))
-    go false e = held e (equal-or-behind m w (rw e at a))
+    go false e = held e (equal-or-ahead m w (rw e at a))
 
-fares-waiting : (w : Bits) (row : List Station) → Behind w (waiting row)
+fares-waiting : (w : Bits) (row : List Station) → NotAhead w (waiting row)
     → waiting (afterFares (map (faresAgainst w) row) row) ≡ without w (waiting row)
 unfolding waiting afterFares without
 fares-waiting w [] h = refl
@@ -116,4 +116,4 @@ pub round-waiting : (lent : List ℕ) (row : List Station) → taken (round lent
 unfolding after done
 round-waiting lent row t =
     rw (t, row-fares row (round-taken lent row t .passed .sound))
-    (fares-waiting (winnerOf row) row (behind (winnerOf row) (waiting row) (none-before (waiting row))))
+    (fares-waiting (winnerOf row) row (not-ahead (winnerOf row) (waiting row) (none-before (waiting row))))

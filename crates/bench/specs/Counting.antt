@@ -10,7 +10,7 @@ use lib.ListN.{length, getD, set}
 use Rattle.laws.specs.Tests.{never}
 use Rattle.bench.specs.Stations.{Bits}
 use Rattle.bench.specs.Order.{ahead, sameBits}
-use Rattle.bench.specs.OrderLaws.{irreflexive, equal-or-behind, ahead-some, same-true, same-refl, same-no, different-same}
+use Rattle.bench.specs.OrderLaws.{irreflexive, equal-or-ahead, ahead-some, same-true, same-refl, same-no, different-same}
 use Rattle.bench.specs.Histories.{among, differentAhead}
 use Rattle.bench.specs.First.{none-ahead}
 use Rattle.bench.specs.RoundStated.{first}
@@ -80,7 +80,7 @@ pub turn : (m : Bits) (xs : List Bits) → among m xs ≡ true → (first xs ≢
 turn m xs h f = go (ahead (first xs) m) refl
   where
     now : ahead (first xs) m ≡ false → first xs ≡ m
-    now e = elim (equal-or-behind (first xs) m e) [ inl q ↦ q | inr q ↦ never q (none-ahead m xs h) ]
+    now e = elim (equal-or-ahead (first xs) m e) [ inl q ↦ q | inr q ↦ never q (none-ahead m xs h) ]
 
     go : (t : Bool) → ahead (first xs) m ≡ t → Turn m xs
     go false e = goesNow (now e) (none-counted m xs (λ x k. rw (← now e) (none-ahead x xs k)))

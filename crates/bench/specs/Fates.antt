@@ -13,7 +13,7 @@ use Rattle.bench.specs.Stations.{empty, waitingAt, blank}
 use Rattle.bench.specs.Order.{ahead}
 use Rattle.bench.specs.Calls.{allSound, allEmpty}
 use Rattle.bench.specs.Histories.{waiting, among}
-use Rattle.bench.specs.First.{first-some, first-or-behind}
+use Rattle.bench.specs.First.{first-some, first-or-ahead}
 use Rattle.bench.specs.RoundStated.{against, winnerOf, stationAt, FirstDifference, fareAt}
 use Rattle.bench.specs.RowLaws.{faresAgainst, row-fares}
 use Rattle.bench.specs.Places.{waiting-at, holder-some, at-among, somebody}
@@ -57,4 +57,4 @@ module _ (row : List Station) (sound : allSound row ≡ true) (some : allEmpty r
 
       go : (t : Bool) → empty s ≡ t → Fate i
       go true e = isIdle e (fare-is i ∙ rw e)
-      go false e = held e (first-or-behind (waitingAt s) (waiting row) (among-waiting i (holder-some s e)))
+      go false e = held e (first-or-ahead (waitingAt s) (waiting row) (among-waiting i (holder-some s e)))

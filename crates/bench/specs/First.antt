@@ -7,7 +7,7 @@ use mathlib.Core.List.{List, [], _∷_}
 use Rattle.laws.specs.Tests.{never}
 use Rattle.bench.specs.Stations.{Bits}
 use Rattle.bench.specs.Order.{ahead, sameBits}
-use Rattle.bench.specs.OrderLaws.{irreflexive, asymmetric, equal-or-behind, not-ahead-transitive, same-true, same-refl}
+use Rattle.bench.specs.OrderLaws.{irreflexive, asymmetric, equal-or-ahead, not-ahead-transitive, same-true, same-refl}
 use Rattle.bench.specs.Histories.{among}
 use Rattle.bench.specs.RoundStated.{firstOf, first}
 
@@ -29,17 +29,17 @@ unfolding firstOf ahead
 first-same-bit true x y = either-way (λ (r : Bits). true ∷ r) (ahead x y) x y
 first-same-bit false x y = either-way (λ (r : Bits). false ∷ r) (ahead x y) x y
 
-left-behind : (x y : Bits) → ahead x (firstOf x y) ≡ false
+left-not-ahead : (x y : Bits) → ahead x (firstOf x y) ≡ false
 unfolding firstOf
-left-behind x y = go (ahead x y) refl
+left-not-ahead x y = go (ahead x y) refl
   where
     go : (b : Bool) → ahead x y ≡ b → ahead x (cond b x y) ≡ false
     go true e = irreflexive x
     go false e = e
 
-right-behind : (x y : Bits) → ahead y (firstOf x y) ≡ false
+right-not-ahead : (x y : Bits) → ahead y (firstOf x y) ≡ false
 unfolding firstOf
-right-behind x y = go (ahead x y) refl
+right-not-ahead x y = go (ahead x y) refl
   where
     go : (b : Bool) → ahead x y ≡ b → ahead y (cond b x y) ≡ false
     go true e = asymmetric x y e
@@ -55,8 +55,8 @@ none-ahead m (x ∷ xs) h = go (sameBits m x) refl (none-ahead m xs) h
   where
     go : (b : Bool) → sameBits m x ≡ b → (among m xs ≡ true → ahead m (first xs) ≡ false) → (b || among m xs) ≡ true
         → ahead m (firstOf x (first xs)) ≡ false
-    go true e ih h = rw (same-true m x e) (left-behind x (first xs))
-    go false e ih h = not-ahead-transitive m (first xs) (firstOf x (first xs)) (ih h) (right-behind x (first xs))
+    go true e ih h = rw (same-true m x e) (left-not-ahead x (first xs))
+    go false e ih h = not-ahead-transitive m (first xs) (firstOf x (first xs)) (ih h) (right-not-ahead x (first xs))
 
 -- The first is one of them, unless there is none with a bit.
 pub first-among : (xs : List Bits) → first xs ≢ [] → among (first xs) xs ≡ true
@@ -79,5 +79,5 @@ first-some m xs n h e = go m n (rw e at (none-ahead m xs h))
     go (b ∷ x) d a = never refl a
 
 -- Each of them is the first, or the first is ahead of it.
-pub first-or-behind : (m : Bits) (xs : List Bits) → among m xs ≡ true → (m ≡ first xs) ⊎ (ahead (first xs) m ≡ true)
-first-or-behind m xs h = equal-or-behind m (first xs) (none-ahead m xs h)
+pub first-or-ahead : (m : Bits) (xs : List Bits) → among m xs ≡ true → (m ≡ first xs) ⊎ (ahead (first xs) m ≡ true)
+first-or-ahead m xs h = equal-or-ahead m (first xs) (none-ahead m xs h)

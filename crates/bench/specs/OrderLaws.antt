@@ -75,15 +75,15 @@ asymmetric x y p = go (ahead y x) refl
     go true e = never (transitive x y x p e) (irreflexive x)
 
 -- A message that is not ahead of another is equal to it, or the other is ahead.
-pub equal-or-behind : (x y : Bits) → ahead x y ≡ false → (x ≡ y) ⊎ (ahead y x ≡ true)
+pub equal-or-ahead : (x y : Bits) → ahead x y ≡ false → (x ≡ y) ⊎ (ahead y x ≡ true)
 unfolding ahead
-equal-or-behind [] [] p = inl refl
-equal-or-behind [] (c ∷ y) p = inr refl
-equal-or-behind (b ∷ x) [] p = never refl p
-equal-or-behind (true ∷ x) (true ∷ y) p = elim (equal-or-behind x y p) [ inl e ↦ inl (ap (λ (r : Bits). true ∷ r) e) | inr h ↦ inr h ]
-equal-or-behind (true ∷ x) (false ∷ y) p = inr refl
-equal-or-behind (false ∷ x) (true ∷ y) p = never refl p
-equal-or-behind (false ∷ x) (false ∷ y) p = elim (equal-or-behind x y p) [ inl e ↦ inl (ap (λ (r : Bits). false ∷ r) e) | inr h ↦ inr h ]
+equal-or-ahead [] [] p = inl refl
+equal-or-ahead [] (c ∷ y) p = inr refl
+equal-or-ahead (b ∷ x) [] p = never refl p
+equal-or-ahead (true ∷ x) (true ∷ y) p = elim (equal-or-ahead x y p) [ inl e ↦ inl (ap (λ (r : Bits). true ∷ r) e) | inr h ↦ inr h ]
+equal-or-ahead (true ∷ x) (false ∷ y) p = inr refl
+equal-or-ahead (false ∷ x) (true ∷ y) p = never refl p
+equal-or-ahead (false ∷ x) (false ∷ y) p = elim (equal-or-ahead x y p) [ inl e ↦ inl (ap (λ (r : Bits). false ∷ r) e) | inr h ↦ inr h ]
 
 -- Of two different messages one is ahead of the other.
 pub total-on-different : (x y : Bits) → x ≢ y → (ahead x y ≡ true) ⊎ (ahead y x ≡ true)
@@ -91,11 +91,11 @@ total-on-different x y n = go (ahead x y) refl
   where
     go : (b : Bool) → ahead x y ≡ b → (ahead x y ≡ true) ⊎ (ahead y x ≡ true)
     go true e = inl e
-    go false e = elim (equal-or-behind x y e) [ inl q ↦ absurd (n q) | inr h ↦ inr h ]
+    go false e = elim (equal-or-ahead x y e) [ inl q ↦ absurd (n q) | inr h ↦ inr h ]
 
 -- Not ahead of y, which is not ahead of z: not ahead of z.
 pub not-ahead-transitive : (x y z : Bits) → ahead x y ≡ false → ahead y z ≡ false → ahead x z ≡ false
-not-ahead-transitive x y z p q = go (ahead x z) refl (equal-or-behind x y p)
+not-ahead-transitive x y z p q = go (ahead x z) refl (equal-or-ahead x y p)
   where
     go : (b : Bool) → ahead x z ≡ b → (x ≡ y) ⊎ (ahead y x ≡ true) → ahead x z ≡ false
     go false e s = e

@@ -84,11 +84,11 @@ answer-is ws p h = go (reading ws p mostBytes) (comes mostBytes (single ws) p mo
     opened : (o : ℕ) → Opens (single ws) p o → (x : Outcome) → Decision mostBytes (single ws) o x → reading ws p mostBytes ≡ x → Answer ws p x
     opened o op x (isUnfinished u) e = isOpen (op .from) (omega (arith, op .followed))
     opened o op x (isGood {k} c n g) e =
-        let s = sized ws (frameAt (single ws) o k) (c .behind) (written-again ws p mostBytes (frameAt (single ws) o k) e) in
+        let s = sized ws (frameAt (single ws) o k) (c .later) (written-again ws p mostBytes (frameAt (single ws) o k) e) in
         isFrame (op .from) (end-even ws o (op .end)) (s .far) (c .inside) (s .few)
     opened o op x (isFaulty {k} c f) e =
         let n = named (symbolAt ws k) (fault-said mostBytes (stands (single ws) o k) (single ws .shows k) (faultAt mostBytes (single ws) o k) f .0 refl) in
-        isFault (n .fault-is) (n .number-is) (op .from) (end-even ws o (op .end)) (c .behind) (c .inside)
+        isFault (n .fault-is) (n .number-is) (op .from) (end-even ws o (op .end)) (c .later) (c .inside)
 
     go : (x : Outcome) → Comes mostBytes (single ws) p mostBytes x → reading ws p mostBytes ≡ x → Answer ws p x
     go x (isPast a) e = absurd (omega arith)

@@ -66,8 +66,8 @@ up-to p o h e = go (eq-or-lt-of-le h)
     go (inl q) = rw (q, e) (omega arith)
     go (inr l) = omega arith
 
-up-behind : (o k : ℕ) → o < k → o % 2 ≡ 0 → o + 2 ≤ up k
-up-behind o k h e = go (eq-or-lt-of-le h)
+up-after : (o k : ℕ) → o < k → o % 2 ≡ 0 → o + 2 ≤ up k
+up-after o k h e = go (eq-or-lt-of-le h)
   where
     go : (suc o ≡ k) ⊎ (suc o < k) → o + 2 ≤ up k
     go (inl q) = let r : suc o % 2 ≡ 1 = omega arith in rw (← q, r) (omega arith)
@@ -124,7 +124,7 @@ module _ (customer vehicle : List ℕ) (c : length customer ≤ mostLabel) (v : 
     uses p x i (isFault {o} {k} f n a b d g) e =
         let r = row-size ws p x h i (isFault f n a b d g) in
         let u = up-to p o a b in
-        let v = up-behind o k d b in
+        let v = up-after o k d b in
         let w = up-inside k (length ws) g in
         record { bytes = omega arith; places = omega arith; inside = omega arith }
 

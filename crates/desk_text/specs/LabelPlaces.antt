@@ -46,12 +46,12 @@ stand : (c v t : List ℕ) → Stand (own ++ (tab ∷ (c ++ (tab ∷ (v ++ t))))
 stand c v t =
     record {
       customer-stands = take-at c (tab ∷ (v ++ t)) (length c) refl;
-      vehicle-stands = ap (take (length v)) behind ∙ take-at v t (length v) refl;
+      vehicle-stands = ap (take (length v)) after ∙ take-at v t (length v) refl;
       inside = omega (arith, length-append c (tab ∷ (v ++ t)), length-append v t);
     }
   where
-    behind : drop (customerPlace + length c + 1) (own ++ (tab ∷ (c ++ (tab ∷ (v ++ t))))) ≡ v ++ t
-    behind =
+    after : drop (customerPlace + length c + 1) (own ++ (tab ∷ (c ++ (tab ∷ (v ++ t))))) ≡ v ++ t
+    after =
         let n : customerPlace + length c + 1 ≡ suc (suc (suc (suc (length c + 1)))) = omega arith in
         let p : (c ++ (tab ∷ [])) ++ (v ++ t) ≡ c ++ (tab ∷ (v ++ t)) = append-assoc c (tab ∷ []) (v ++ t) in
         rw (n, ← p) (drop-at (c ++ (tab ∷ [])) (v ++ t) (length c + 1) (length-append c (tab ∷ [])))

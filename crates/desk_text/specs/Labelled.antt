@@ -45,12 +45,12 @@ tail-plain x f h =
     let b = both (not (eqb x tab)) (not (eqb x newline)) (a .0) in
     (not-true (eqb x tab) (b .0), not-true (eqb x newline) (b .1), a .1)
 
-field-behind : (f rest : List ℕ) → Plain-field f → pieces tab (f ++ (tab ∷ rest)) ≡ f ∷ pieces tab rest
+field-after : (f rest : List ℕ) → Plain-field f → pieces tab (f ++ (tab ∷ rest)) ≡ f ∷ pieces tab rest
 unfolding pieces
-field-behind [] rest h = refl
-field-behind (x ∷ f) rest h =
+field-after [] rest h = refl
+field-after (x ∷ f) rest h =
     let a = tail-plain x f h in
-    rw (a .0, field-behind f rest (a .2))
+    rw (a .0, field-after f rest (a .2))
 
 field-last : (f : List ℕ) → Plain-field f → pieces tab f ≡ f ∷ []
 unfolding pieces
@@ -62,7 +62,7 @@ field-last (x ∷ f) h =
 -- Fields that are put together with tabs are the fields again.
 fields-again : (f : List ℕ) (fs : List (List ℕ)) → All-plain (f ∷ fs) → fields (joined tab (f ∷ fs)) ≡ f ∷ fs
 fields-again f [] h = field-last f (h .0)
-fields-again f (g ∷ gs) h = field-behind f (joined tab (g ∷ gs)) (h .0) ∙ ap (λ (r : List (List ℕ)). f ∷ r) (fields-again g gs (h .1))
+fields-again f (g ∷ gs) h = field-after f (joined tab (g ∷ gs)) (h .0) ∙ ap (λ (r : List (List ℕ)). f ∷ r) (fields-again g gs (h .1))
 
 -- no newline stands in a field, nor between fields
 abbrev One-line : List ℕ → Type 0
@@ -94,8 +94,8 @@ line-joined f (g ∷ gs) rest =
     ∙ sym (append-assoc f (tab ∷ joined tab (g ∷ gs)) (newline ∷ rest))
 
 -- A line of fields is one line, and the lines after it are those of what follows.
-line-behind : (f : List ℕ) (fs : List (List ℕ)) (rest : List ℕ) → All-plain (f ∷ fs) → lines (lineOf (f ∷ fs) ++ rest) ≡ shut (joined tab (f ∷ fs)) ∷ lines rest
-line-behind f fs rest h = ap lines (line-joined f fs rest) ∙ line-text (joined tab (f ∷ fs)) rest (fields-one-line f fs h)
+line-after : (f : List ℕ) (fs : List (List ℕ)) (rest : List ℕ) → All-plain (f ∷ fs) → lines (lineOf (f ∷ fs) ++ rest) ≡ shut (joined tab (f ∷ fs)) ∷ lines rest
+line-after f fs rest h = ap lines (line-joined f fs rest) ∙ line-text (joined tab (f ∷ fs)) rest (fields-one-line f fs h)
 
 -- ## What the fields are made of
 
@@ -197,13 +197,13 @@ module _ (customer vehicle : List ℕ) (c : isLabel customer ≡ true) (v : isLa
   unfolding rowsOf rowOf lines
   rows-lines [] = refl
   rows-lines (x ∷ xs) =
-      line-behind customer (vehicle ∷ tellsOf x) (rowsOf customer vehicle xs) (row-plain x)
+      line-after customer (vehicle ∷ tellsOf x) (rowsOf customer vehicle xs) (row-plain x)
       ∙ ap (λ (ls : List Line). rowLine customer vehicle x ∷ ls) (rows-lines xs)
 
   report-lines : (ws : List ℕ) → lines (report customer vehicle ws) ≡ headerLine ∷ rowLines customer vehicle (answers ws)
   unfolding report every parts-not
   report-lines ws =
-      line-behind w-customer (w-vehicle ∷ w-at ∷ w-kind ∷ w-main ∷ w-response ∷ []) (rowsOf customer vehicle (answers ws)) (refl, (refl, (refl, (refl, (refl, (refl, tt))))))
+      line-after w-customer (w-vehicle ∷ w-at ∷ w-kind ∷ w-main ∷ w-response ∷ []) (rowsOf customer vehicle (answers ws)) (refl, (refl, (refl, (refl, (refl, (refl, tt))))))
       ∙ ap (λ (ls : List Line). headerLine ∷ ls) (rows-lines (answers ws))
 
 rows-count : (customer vehicle : List ℕ) (xs : List Outcome) → length (rowLines customer vehicle xs) ≡ length xs
@@ -229,7 +229,7 @@ pub bad-lines : (s : List ℕ) → ¬ (firstBad (lines s) ≡ 0) → lines (desk
 unfolding every parts-not lines
 bad-lines s n =
     ap lines (desk-bad s n ∙ sym (append-nil (refusal (firstBad (lines s)))))
-    ∙ line-behind w-refused (decimal (firstBad (lines s)) ∷ []) [] (refl, (decimal-plain 19 (firstBad (lines s)), tt))
+    ∙ line-after w-refused (decimal (firstBad (lines s)) ∷ []) [] (refl, (decimal-plain 19 (firstBad (lines s)), tt))
 
 -- The most lines that a text has: the header, one for every two intervals, and one.
 abbrev pub mostLines : ℕ

@@ -155,7 +155,7 @@ written : (ws : List ℕ) (o k : ℕ) → endAt (single ws) o ≡ true → Earli
     → endAt (single ws) k ≡ true → Written ws o k
 written ws o k first e f last =
     let active : activeAt (o + 1) ≡ true = level-turns o ∙ ap not (end-passive ws o first) in
-    let r : Reached mostBytes ws o k = reached mostBytes ws o k (e .behind) active (e .before) in
+    let r : Reached mostBytes ws o k = reached mostBytes ws o k (e .later) active (e .before) in
     let done = shut-complete mostBytes (stands (single ws) o k) (single ws .shows k) (ap shuts (end-shuts (symbolAt ws k) last)) f in
     let same : counted (stands (single ws) o k) (single ws .shows k) ≡ stands (single ws) o k = counted-end (stands (single ws) o k) (symbolAt ws k) last in
     let m : Message (stands (single ws) o k) = message (activeAt k) (stands (single ws) o k) (end-passive ws k last) (r .sound) (subst Complete same (done .0)) (subst ChecksRight same (done .1)) in
@@ -166,7 +166,7 @@ written ws o k first e f last =
       its-words =
           frame-sent nominalClock (mainOf (stands (single ws) o k)) (facts (stands (single ws) o k) .answered) (responseOf (stands (single ws) o k))
           ∙ rw (← (m .puts), n, nominal-both ws o (length (spelled (stands (single ws) o k))), r .count, end-nominal ws o first, end-nominal ws k last, inner, active);
-      its-count = nominal-length ws o (k + 1 - o) ∙ omega (arith, e .behind);
+      its-count = nominal-length ws o (k + 1 - o) ∙ omega (arith, e .later);
     }
 
 take-bytes : (n : ℕ) (bs : List ℕ) → Bytes bs → Bytes (take n bs)

@@ -15,13 +15,13 @@ use Rattle.frame.specs.Bits.{value, byte, bytes}
 use Rattle.frame.specs.Signs.{bitsShown}
 use Rattle.frame.specs.Line.{Line, bitsFrom, bitsIn}
 use Rattle.frame.specs.Faults.{checksOut, whole}
-use Rattle.frame.specs.ReadStated.{leftOver, behind}
+use Rattle.frame.specs.ReadStated.{leftOver, shiftedIn}
 
 -- One bit more after them doubles the number and adds the bit.
-pub behind-more : (n : ℕ) (bits : List Bool) (b : Bool) → behind n (bits ++ (b ∷ [])) ≡ behind n bits * 2 + value b
-unfolding behind
-behind-more n [] b = refl
-behind-more n (x ∷ bits) b = behind-more (n * 2 + value x) bits b
+pub shifted-more : (n : ℕ) (bits : List Bool) (b : Bool) → shiftedIn n (bits ++ (b ∷ [])) ≡ shiftedIn n bits * 2 + value b
+unfolding shiftedIn
+shifted-more n [] b = refl
+shifted-more n (x ∷ bits) b = shifted-more (n * 2 + value x) bits b
 
 -- A bit is 0 or 1.
 pub value-small : (b : Bool) → value b ≤ 1
@@ -30,14 +30,14 @@ value-small false = omega arith
 
 -- What one bit more does: it is left over, or it makes a byte whole.
 pub data OneMore (bits : List Bool) (b : Bool) : Type 0 where
-  isLeft : behind 1 (leftOver bits) * 2 + value b < 256 → bytes (bits ++ (b ∷ [])) ≡ bytes bits
+  isLeft : shiftedIn 1 (leftOver bits) * 2 + value b < 256 → bytes (bits ++ (b ∷ [])) ≡ bytes bits
       → leftOver (bits ++ (b ∷ [])) ≡ leftOver bits ++ (b ∷ []) → OneMore bits b
-  isWhole : (n : ℕ) → behind 1 (leftOver bits) * 2 + value b ≡ 256 + n → bytes (bits ++ (b ∷ [])) ≡ bytes bits ++ (n ∷ [])
+  isWhole : (n : ℕ) → shiftedIn 1 (leftOver bits) * 2 + value b ≡ 256 + n → bytes (bits ++ (b ∷ [])) ≡ bytes bits ++ (n ∷ [])
       → leftOver (bits ++ (b ∷ [])) ≡ [] → OneMore bits b
 
 -- One of the two happens to each bit.
 pub one-more : (bits : List Bool) (b : Bool) → OneMore bits b
-unfolding leftOver behind bytes
+unfolding leftOver shiftedIn bytes
 one-more [] b = isLeft (omega (arith, value-small b)) refl refl
 one-more (x1 ∷ []) b = isLeft (omega (arith, value-small b, value-small x1)) refl refl
 one-more (x1 ∷ x2 ∷ []) b = isLeft (omega (arith, value-small b, value-small x1, value-small x2)) refl refl
@@ -56,16 +56,16 @@ above : (n : ℕ) → 2 ≤ n → eqb n 1 ≡ false
 above n h = ne-eqb n 1 (λ e. omega arith)
 
 -- "1 to 7 bits of a byte": the partial byte is other than its leading 1.
-pub left-none : (bits : List Bool) → eqb (behind 1 (leftOver bits)) 1 ≡ whole bits
-unfolding leftOver behind
+pub left-none : (bits : List Bool) → eqb (shiftedIn 1 (leftOver bits)) 1 ≡ whole bits
+unfolding leftOver shiftedIn
 left-none [] = refl
-left-none (x1 ∷ []) = above (behind 1 (x1 ∷ [])) (omega arith)
-left-none (x1 ∷ x2 ∷ []) = above (behind 1 (x1 ∷ x2 ∷ [])) (omega arith)
-left-none (x1 ∷ x2 ∷ x3 ∷ []) = above (behind 1 (x1 ∷ x2 ∷ x3 ∷ [])) (omega arith)
-left-none (x1 ∷ x2 ∷ x3 ∷ x4 ∷ []) = above (behind 1 (x1 ∷ x2 ∷ x3 ∷ x4 ∷ [])) (omega arith)
-left-none (x1 ∷ x2 ∷ x3 ∷ x4 ∷ x5 ∷ []) = above (behind 1 (x1 ∷ x2 ∷ x3 ∷ x4 ∷ x5 ∷ [])) (omega arith)
-left-none (x1 ∷ x2 ∷ x3 ∷ x4 ∷ x5 ∷ x6 ∷ []) = above (behind 1 (x1 ∷ x2 ∷ x3 ∷ x4 ∷ x5 ∷ x6 ∷ [])) (omega arith)
-left-none (x1 ∷ x2 ∷ x3 ∷ x4 ∷ x5 ∷ x6 ∷ x7 ∷ []) = above (behind 1 (x1 ∷ x2 ∷ x3 ∷ x4 ∷ x5 ∷ x6 ∷ x7 ∷ [])) (omega arith)
+left-none (x1 ∷ []) = above (shiftedIn 1 (x1 ∷ [])) (omega arith)
+left-none (x1 ∷ x2 ∷ []) = above (shiftedIn 1 (x1 ∷ x2 ∷ [])) (omega arith)
+left-none (x1 ∷ x2 ∷ x3 ∷ []) = above (shiftedIn 1 (x1 ∷ x2 ∷ x3 ∷ [])) (omega arith)
+left-none (x1 ∷ x2 ∷ x3 ∷ x4 ∷ []) = above (shiftedIn 1 (x1 ∷ x2 ∷ x3 ∷ x4 ∷ [])) (omega arith)
+left-none (x1 ∷ x2 ∷ x3 ∷ x4 ∷ x5 ∷ []) = above (shiftedIn 1 (x1 ∷ x2 ∷ x3 ∷ x4 ∷ x5 ∷ [])) (omega arith)
+left-none (x1 ∷ x2 ∷ x3 ∷ x4 ∷ x5 ∷ x6 ∷ []) = above (shiftedIn 1 (x1 ∷ x2 ∷ x3 ∷ x4 ∷ x5 ∷ x6 ∷ [])) (omega arith)
+left-none (x1 ∷ x2 ∷ x3 ∷ x4 ∷ x5 ∷ x6 ∷ x7 ∷ []) = above (shiftedIn 1 (x1 ∷ x2 ∷ x3 ∷ x4 ∷ x5 ∷ x6 ∷ x7 ∷ [])) (omega arith)
 left-none (x1 ∷ x2 ∷ x3 ∷ x4 ∷ x5 ∷ x6 ∷ x7 ∷ x8 ∷ rest) = left-none rest ∙ ap (λ (m : ℕ). eqb m 0) (eight (length rest))
   where
     eight : (n : ℕ) → n % 8 ≡ suc (suc (suc (suc (suc (suc (suc (suc n))))))) % 8

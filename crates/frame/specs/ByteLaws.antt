@@ -118,11 +118,11 @@ with-checks bs = checks-more bs (checkOf bs) ∙ eq-eqb (checkOf bs) (checkOf bs
 
 -- Bytes with their check byte are bytes.
 pub with-bytes : (bs : List ℕ) → Bytes bs → Bytes (withCheck bs)
-with-bytes bs h = behind bs (checkOf bs) (check-lt bs) h
+with-bytes bs h = appended bs (checkOf bs) (check-lt bs) h
   where
-    behind : (ns : List ℕ) (c : ℕ) → c < 256 → Bytes ns → Bytes (ns ++ (c ∷ []))
-    behind [] c k h = (k, tt)
-    behind (n ∷ ns) c k h = (h .0, behind ns c k (h .1))
+    appended : (ns : List ℕ) (c : ℕ) → c < 256 → Bytes ns → Bytes (ns ++ (c ∷ []))
+    appended [] c k h = (k, tt)
+    appended (n ∷ ns) c k h = (h .0, appended ns c k (h .1))
 
 -- Bytes that end with their check byte are those before it with their check byte.
 pub check-back : (bs : List ℕ) → 1 ≤ length bs → checksOut bs ≡ true → withCheck (withoutCheck bs) ≡ bs

@@ -39,7 +39,7 @@ found-earliest : (limit : ℕ) (l : Line) (o k : ℕ) → firstIn (decides limit
 found-earliest limit l o k h =
     let f : IsFirst (decides limit l o) (o + 1) (l .count - (o + 1)) k = first-at (decides limit l o) (o + 1) (l .count - (o + 1)) k h in
     record {
-      behind = omega (arith, f .from);
+      later = omega (arith, f .from);
       inside = omega (arith, f .from, f .before);
       before = undecided limit l o k (λ j a b. f .none-earlier j (omega arith) b);
     }
@@ -48,8 +48,8 @@ earliest-found : (limit : ℕ) (l : Line) (o k : ℕ) → Earliest limit l o k �
 earliest-found limit l o k e d =
     at-first (decides limit l o) (o + 1) (l .count - (o + 1)) k
     (record {
-      from = omega (arith, e .behind);
-      before = omega (arith, e .behind, e .inside);
+      from = omega (arith, e .later);
+      before = omega (arith, e .later, e .inside);
       holds = d;
       none-earlier = λ j a b. still limit l o k j (e .before) (omega arith) b;
     })

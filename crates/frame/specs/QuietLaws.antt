@@ -78,8 +78,8 @@ unfinished-exactly limit l p lent o = (λ e. there (readOn limit l p lent) (come
 
     decided-so : Undecided limit l o (l .count) → (y : Outcome) → Decision limit l o y → y ≡ unfinished o
     decided-so u y (isUnfinished v) = refl
-    decided-so u y (isGood {k} e f h) = never h (u .no-end k (e .behind) (e .inside))
-    decided-so u y (isFaulty {k} e f) = absurd (omega (arith, u .no-fault k (e .behind) (e .inside)))
+    decided-so u y (isGood {k} e f h) = never h (u .no-end k (e .later) (e .inside))
+    decided-so u y (isFaulty {k} e f) = absurd (omega (arith, u .no-fault k (e .later) (e .inside)))
 
     back : Unclosed limit l p lent o → readOn limit l p lent ≡ unfinished o
     back c = opened-reading limit l p lent o (c .enough) (c .opens) ∙ decided-so (c .none-decides) (decided limit l o) (decision limit l o)

@@ -27,7 +27,7 @@ use Rattle.frame.specs.Outcomes.{opened-reading}
 use Rattle.frame.specs.ReadStated.{Opens, Complete, ChecksRight}
 use Rattle.frame.specs.ByteLaws.{bytes-back, bits-length, with-bytes}
 use Rattle.frame.specs.Waves.{bitSymbols, byteSymbols, responseSymbols, frameSymbols, FrameWave}
-use Rattle.frame.specs.WaveLaws.{Stand, Shows, stands-behind, stand-append, wave-carries, wave-length, bit-shown, carry-shows, shows-append}
+use Rattle.frame.specs.WaveLaws.{Stand, Shows, stands-after, stand-append, wave-carries, wave-length, bit-shown, carry-shows, shows-append}
 use Rattle.frame.specs.WriteStated.{Carry, Admitted}
 use Rattle.frame.specs.ShownLaws.{end-width, end-shuts}
 use Rattle.frame.specs.Passing.{Closes, on, passes-closes, decides-it}
@@ -198,10 +198,10 @@ reads-standing line ws main kind rs o lent f st fits adm mb rb even enough =
 -- READ-BACK OF A WAVE. Any words that are a frame of an admitted message at widths inside the receiving windows, with anything
 -- standing before them, so that they begin passive, and anything after them, are read from their first place as that message:
 -- both parts with their checks, the kind of response, the opening at that place, the next position at their last.
-pub reads-wave : (before ws behind main : List ℕ) (kind : Response) (rs : List ℕ) (lent : ℕ) → FrameWave main kind rs ws
+pub reads-wave : (before ws after main : List ℕ) (kind : Response) (rs : List ℕ) (lent : ℕ) → FrameWave main kind rs ws
     → badMessage main kind rs ≡ false → Bytes main → Bytes rs → length before % 2 ≡ 0 → mostBytes ≤ lent
-    → reading (before ++ (ws ++ behind)) (length before) lent
+    → reading (before ++ (ws ++ after)) (length before) lent
     ≡ good (frameSent main kind rs (length before) (length before + length ws - 1))
-reads-wave before ws behind main kind rs lent f adm mb rb even enough =
-    reads-standing (before ++ (ws ++ behind)) ws main kind rs (length before) lent f (stands-behind before ws behind)
+reads-wave before ws after main kind rs lent f adm mb rb even enough =
+    reads-standing (before ++ (ws ++ after)) ws main kind rs (length before) lent f (stands-after before ws after)
     (simp length-append (omega arith)) adm mb rb even enough

@@ -35,9 +35,9 @@ leftOver (a ∷ b ∷ c ∷ d ∷ e ∷ f ∷ g ∷ []) = a ∷ b ∷ c ∷ d �
 leftOver (a ∷ b ∷ c ∷ d ∷ e ∷ f ∷ g ∷ h ∷ rest) = leftOver rest
 
 -- a number with the bits after it: a partial byte is kept as its bits after a leading 1
-unfoldable pub behind : ℕ → List Bool → ℕ
-behind n [] = n
-behind n (b ∷ bits) = behind (n * 2 + value b) bits
+unfoldable pub shiftedIn : ℕ → List Bool → ℕ
+shiftedIn n [] = n
+shiftedIn n (b ∷ bits) = shiftedIn (n * 2 + value b) bits
 
 -- the widths that are wrong by themselves, and the number of each: 11 noise, 13 a break, 14 a stuck line
 pub data WrongWidth (active : Bool) (w : ℕ) : ℕ → Type 0 where
@@ -57,7 +57,7 @@ pub record Undecided (limit : ℕ) (l : Line) (o k : ℕ) : Type 0 where
 
 -- k lies after the opening o and in the recording, and no interval before it decides the frame.
 pub record Earliest (limit : ℕ) (l : Line) (o k : ℕ) : Type 0 where
-  pub behind : o < k
+  pub later : o < k
   pub inside : k < l .count
   pub before : Undecided limit l o k
 

@@ -26,8 +26,8 @@ nextOf x = tells x .next
 
 decided-on : (limit : ℕ) (l : Line) (o : ℕ) (x : Outcome) → Decision limit l o x → goesOn x ≡ true → (o < nextOf x) × (nextOf x < l .count)
 decided-on limit l o x (isUnfinished u) g = never g refl
-decided-on limit l o x (isGood e f h) g = (e .behind, e .inside)
-decided-on limit l o x (isFaulty e h) g = (e .behind, e .inside)
+decided-on limit l o x (isGood e f h) g = (e .later, e .inside)
+decided-on limit l o x (isFaulty e h) g = (e .later, e .inside)
 
 -- The next position of a frame or a fault lies after the position that was read from, and in the recording.
 pub progress : (limit : ℕ) (l : Line) (p lent : ℕ) → goesOn (readOn limit l p lent) ≡ true

@@ -45,8 +45,8 @@ module _ (limit : ℕ) (st : Standing) (s : Sign) where
   checkWrong = both (set (shuts s)) (both (set (facts then .hasCheck)) (isNot (set (checksOut (partBytes then)))))
 
   -- 19: "EOD after a response that passes 16, 17 and 18"
-  abbrev pub eodBehindResponse : Test
-  eodBehindResponse = both (set (isEod s)) (set (facts then .responding))
+  abbrev pub eodAfterResponse : Test
+  eodAfterResponse = both (set (isEod s)) (set (facts then .responding))
 
   -- 20: "first bit of a thirteenth byte", where a frame has at most twelve
   abbrev pub bitPastLimit : Test
@@ -69,7 +69,7 @@ rows limit st s =
     ∷ row 16 (byteSplit limit st s)
     ∷ row 17 (bytesFew limit st s)
     ∷ row 18 (checkWrong limit st s)
-    ∷ row 19 (eodBehindResponse limit st s)
+    ∷ row 19 (eodAfterResponse limit st s)
     ∷ row 20 (bitPastLimit limit st s)
     ∷ []
 

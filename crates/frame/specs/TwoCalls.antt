@@ -119,13 +119,13 @@ module _ (lengths : Lengths) (main response rest : List ℕ) (m : lengths .main 
   main-taken : mainTaken lengths ((main ++ response) ++ rest) ≡ withoutCheck main
   main-taken = rw (m, append-assoc main response rest) (take-append-le (length main - 1) main (response ++ rest) (omega arith))
 
-  behind-main : drop (lengths .main) ((main ++ response) ++ rest) ≡ response ++ rest
-  behind-main = rw (m, append-assoc main response rest) (drop-append-seam main (response ++ rest))
+  after-main : drop (lengths .main) ((main ++ response) ++ rest) ≡ response ++ rest
+  after-main = rw (m, append-assoc main response rest) (drop-append-seam main (response ++ rest))
 
   response-taken : (kind : Response) → responseTaken kind lengths ((main ++ response) ++ rest) ≡ responseBare kind response
   response-taken Without = refl
-  response-taken Plain = rw (behind-main, r) (take-append-seam response rest)
-  response-taken Checked = rw (behind-main, r) (take-append-le (length response - 1) response rest (omega arith))
+  response-taken Plain = rw (after-main, r) (take-append-seam response rest)
+  response-taken Checked = rw (after-main, r) (take-append-le (length response - 1) response rest (omega arith))
 
 -- A frame is read into lent bytes, and its parts, taken from there without their check bytes, are written at the nominal
 -- clock: the words are the recording's own intervals from the opening to the closing end, at nominal widths.

@@ -52,12 +52,12 @@ Stand ws i [] = Unit {0}
 Stand ws i (v ∷ vs) = (getD ws i 0 ≡ v) × Stand ws (i + 1) vs
 
 -- Words that stand after others stand from their number on.
-pub stands-behind : (before vs after : List ℕ) → Stand (before ++ (vs ++ after)) (length before) vs
-stands-behind before [] after = tt
-stands-behind before (v ∷ vs) after =
+pub stands-after : (before vs after : List ℕ) → Stand (before ++ (vs ++ after)) (length before) vs
+stands-after before [] after = tt
+stands-after before (v ∷ vs) after =
     let n : length (before ++ (v ∷ [])) ≡ length before + 1 = length-append before (v ∷ []) in (
       getD-append-seam before v (vs ++ after) 0,
-      rw (append-snoc before v (vs ++ after), n) at (stands-behind (before ++ (v ∷ [])) vs after),
+      rw (append-snoc before v (vs ++ after), n) at (stands-after (before ++ (v ∷ [])) vs after),
     )
 
 -- Places that hold a wave carry its symbols.

@@ -66,9 +66,9 @@ module _ (c : Clock) (g : Good c) where
 -- DEMAND 2, FIRST THEOREM. For every admitted message and every clock in the sending windows, what the writer writes, with
 -- anything standing before it, so that it begins passive, and anything after it, is read from its first place as that message:
 -- both parts with their checks, the kind of response, the opening at its first word and the next position at its last.
-pub reads-written : (c : Clock) (before behind main : List ℕ) (kind : Response) (rs : List ℕ) (lent : ℕ) → goodOf c ≡ true
+pub reads-written : (c : Clock) (before after main : List ℕ) (kind : Response) (rs : List ℕ) (lent : ℕ) → goodOf c ≡ true
     → badMessage main kind rs ≡ false → Bytes main → Bytes rs → length before % 2 ≡ 0 → mostBytes ≤ lent
-    → reading (before ++ (frameWords c main kind rs ++ behind)) (length before) lent
+    → reading (before ++ (frameWords c main kind rs ++ after)) (length before) lent
     ≡ good (frameSent main kind rs (length before) (length before + length (frameWords c main kind rs) - 1))
-reads-written c before behind main kind rs lent g adm mb rb even enough =
-    reads-wave before (frameWords c main kind rs) behind main kind rs lent (written-wave c (good-clock c g) main kind rs) adm mb rb even enough
+reads-written c before after main kind rs lent g adm mb rb even enough =
+    reads-wave before (frameWords c main kind rs) after main kind rs lent (written-wave c (good-clock c g) main kind rs) adm mb rb even enough

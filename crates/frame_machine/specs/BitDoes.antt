@@ -14,8 +14,8 @@ use Rattle.checkbyte.specs.Register.{allOnes, registerFrom}
 use Rattle.frame.specs.declared.Fault.the-variants.{NoSof, ThirteenthByte}
 use Rattle.frame.specs.Signs.{bit}
 use Rattle.frame.specs.Bits.{value, bytes}
-use Rattle.frame.specs.BitLaws.{behind-more, OneMore, isLeft, isWhole, one-more, register-more}
-use Rattle.frame.specs.ReadStated.{leftOver, behind}
+use Rattle.frame.specs.BitLaws.{shifted-more, OneMore, isLeft, isWhole, one-more, register-more}
+use Rattle.frame.specs.ReadStated.{leftOver, shiftedIn}
 use Rattle.frame.specs.Standing.{plain, checked, Standing, atSof, inMain, atNormalization, inResponse, moved}
 use Rattle.frame.specs.Faults.{fault}
 use Rattle.frame_machine.specs.declared.Phase.{Phase}
@@ -35,8 +35,8 @@ data Pushed (all all′ : List ℕ) (next : Machine) (r : Stepped) : Type 0 wher
   leaves : r ≡ record { machine = next; event = Going } → all′ ≡ all → Pushed all all′ next r
   fills : (n : ℕ) → r ≡ record { machine = next; event = Byte n } → all′ ≡ all ++ (n ∷ []) → Pushed all all′ next r
 
-no-bit : behind 1 [] ≡ 1
-unfolding behind
+no-bit : shiftedIn 1 [] ≡ 1
+unfolding shiftedIn
 no-bit = refl
 
 one-longer : (bs : List ℕ) (n : ℕ) → length (bs ++ (n ∷ [])) ≡ length bs + 1
@@ -52,7 +52,7 @@ push-by limit phase part before all all′ b h same more = go (one-more part b)
     go : OneMore part b → Pushed all all′ (holdingBy phase (part ++ (b ∷ [])) before all′) (pushOf limit (holdingBy phase part before all) b)
     go (isLeft s e f) =
         leaves
-        (rw (lt-leb limit (length all) h, lt-ltb (behind 1 (leftOver part) * 2 + value b) 256 s, same e, f, behind-more 1 (leftOver part) b, e))
+        (rw (lt-leb limit (length all) h, lt-ltb (shiftedIn 1 (leftOver part) * 2 + value b) 256 s, same e, f, shifted-more 1 (leftOver part) b, e))
         (same e)
     go (isWhole n s e f) =
         let off : 256 + n - 256 ≡ n = omega arith in
@@ -105,7 +105,7 @@ in-response limit phase m r b h =
 
 -- A bit, from every standing.
 pub bit-does : (limit : ℕ) (st : Standing) (one : Bool) → length (soFar st) ≤ limit → Does limit st (bit one) (bitOf limit (holding st) one)
-unfolding bitOf fault holding leftOver behind registerFrom bytes
+unfolding bitOf fault holding leftOver shiftedIn registerFrom bytes
 bit-does limit atSof one h = faults NoSof refl refl
 bit-does limit (inMain m) one h = bit-part limit (inMain m) one refl h (in-main limit m one)
 bit-does limit (atNormalization m) true h = goes refl refl (rw (append-nil (bytes m))) refl

@@ -13,7 +13,7 @@ use Rattle.frame.specs.declared.Fault.the-variants.{SplitByte, FewBytes, WrongC
 use Rattle.frame.specs.Signs.{shut, shuts}
 use Rattle.frame.specs.Bits.{bytes}
 use Rattle.frame.specs.BitLaws.{left-none}
-use Rattle.frame.specs.ReadStated.{leftOver, behind}
+use Rattle.frame.specs.ReadStated.{leftOver, shiftedIn}
 use Rattle.frame.specs.Standing.{plain, checked, Standing, atSof, inMain, atNormalization, inResponse}
 use Rattle.frame.specs.Faults.{facts, partBytes, checksOut, whole, fault}
 use Rattle.frame.specs.StandingLaws.{counted-shut}
@@ -98,7 +98,7 @@ end-does limit st = shut-does limit st false (λ f. closes f refl refl (counted-
 
 -- An EOD goes on to the response, or is at fault after one.
 after-eod : (limit : ℕ) (st : Standing) → fault limit st (shut true) ≡ cond (facts st .responding) 19 0 → Does limit st (shut true) (eodOf (holding st))
-unfolding holding leftOver behind registerFrom bytes
+unfolding holding leftOver shiftedIn registerFrom bytes
 after-eod limit atSof f = goes f refl refl refl
 after-eod limit (inMain m) f = goes f refl (rw (append-nil m, append-nil (bytes m))) (rw (append-nil m))
 after-eod limit (atNormalization m) f = goes f refl (rw (append-nil (bytes m))) refl

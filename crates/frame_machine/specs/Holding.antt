@@ -6,7 +6,7 @@ use mathlib.Core.List.{List, [], _++_}
 use lib.ListN.{length}
 use Rattle.checkbyte.specs.Register.{registerOf}
 use Rattle.frame.specs.Bits.{bytes}
-use Rattle.frame.specs.ReadStated.{leftOver, behind}
+use Rattle.frame.specs.ReadStated.{leftOver, shiftedIn}
 use Rattle.frame.specs.Standing.{plain, checked, Standing, atSof, inMain, atNormalization, inResponse, stands}
 use Rattle.frame.specs.Faults.{facts, mainBytes, responseBytes}
 use Rattle.frame_machine.specs.declared.Phase.{Phase}
@@ -37,7 +37,7 @@ soFar st = mainBytes st ++ responseBytes st
 -- what is held in a phase, with the bits of the part, the bytes before it, and all bytes so far
 abbrev pub holdingBy : Phase → List Bool → List ℕ → List ℕ → Machine
 holdingBy phase part before all =
-    record { phase = phase; partial = behind 1 (leftOver part); count = length all; began = length before; register = registerOf (bytes part) }
+    record { phase = phase; partial = shiftedIn 1 (leftOver part); count = length all; began = length before; register = registerOf (bytes part) }
 
 -- the machine that holds what stands before an interval
 unfoldable pub holding : Standing → Machine

@@ -12,7 +12,7 @@ use Rattle.frame.specs.declared.Sign.{Sign}
 use Rattle.frame.specs.declared.Sign.the-variants.{Bit, Shut, Sof, Wrong}
 use Rattle.frame.specs.Signs.{wrong, sof}
 use Rattle.frame.specs.Bits.{bytes}
-use Rattle.frame.specs.ReadStated.{leftOver, behind}
+use Rattle.frame.specs.ReadStated.{leftOver, shiftedIn}
 use Rattle.frame.specs.Standing.{plain, checked, Standing, atSof, inMain, atNormalization, inResponse}
 use Rattle.frame.specs.Faults.{fault}
 use Rattle.frame.specs.Answers.{faultNumber}
@@ -38,11 +38,11 @@ some-fault ThirteenthByte = refl
 
 -- The machine starts with what stands before the SOF: nothing.
 pub fresh-holds : fresh ≡ holding atSof
-unfolding holding leftOver behind registerFrom bytes
+unfolding holding leftOver shiftedIn registerFrom bytes
 fresh-holds = refl
 
 sof-does : (limit : ℕ) (st : Standing) → Does limit st sof (sofOf (holding st))
-unfolding sofOf fault holding leftOver behind registerFrom bytes
+unfolding sofOf fault holding leftOver shiftedIn registerFrom bytes
 sof-does limit atSof = goes refl refl refl refl
 sof-does limit (inMain m) = faults LateSof refl refl
 sof-does limit (atNormalization m) = faults LateSof refl refl

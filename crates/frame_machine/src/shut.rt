@@ -79,7 +79,7 @@ fn too_few(count: usize, began: usize, fewest: usize) -> bool
 }
 
 // What follows an EOD that is not at fault itself: a response after the main part, and nothing after a response.
-fn behind_eod(machine: Machine) -> Stepped
+fn after_eod(machine: Machine) -> Stepped
     ensures { λ r. ⌜ r ≡ eodOf machine ⌝ }
 {
     let phase = machine.phase;
@@ -108,7 +108,7 @@ pub fn close_part(machine: Machine, eod: bool) -> Stepped
         return fail(machine, Fault::WrongCheck);
     }
     if eod {
-        return behind_eod(machine);
+        return after_eod(machine);
     }
     close(machine)
 }

@@ -29,7 +29,7 @@ use Rattle.live.specs.declared.Heard.the-variants.{Nothing, Frame, Fault
 use Rattle.live.specs.declared.Fed.{Fed}
 use Rattle.live.specs.declared.Asked.{Asked}
 use Rattle.live.specs.declared.Asked.the-variants.{Quiet, Unfinished}
-use Rattle.live.specs.Held.{noFrame, phaseNumber, insideOf, outside, behind}
+use Rattle.live.specs.Held.{noFrame, phaseNumber, insideOf, outside, after}
 
 -- ## The reader
 
@@ -68,13 +68,13 @@ started =
 -- so may an end at fault.
 unfoldable pub beginsAnew : Live → (from : ℕ) → (end : Bool) → Live
 beginsAnew v from true =
-    record { places = behind (v .places) from (v .places .next); inside = insideOf fresh (v .inside .kept) }
+    record { places = after (v .places) from (v .places .next); inside = insideOf fresh (v .inside .kept) }
 beginsAnew v from false =
-    record { places = behind (v .places) from (v .places .opening); inside = outside (v .inside .kept) }
+    record { places = after (v .places) from (v .places .opening); inside = outside (v .inside .kept) }
 
 -- the reader after an interval that leaves its frame open
 unfoldable pub goesOn : Live → Machine → (kept : List ℕ) → Live
-goesOn v m kept = record { places = behind (v .places) (v .places .from) (v .places .opening); inside = insideOf m kept }
+goesOn v m kept = record { places = after (v .places) (v .places .from) (v .places .opening); inside = insideOf m kept }
 
 -- the frame that a machine closes
 abbrev pub heardFrame : Parts → (opening closing : ℕ) → Heard

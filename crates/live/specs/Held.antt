@@ -40,8 +40,8 @@ unfoldable pub outside : List ℕ → Inside
 outside kept = record { count = 0; began = 0; kept = kept; phase = noFrame; partial = 0; register = 0 }
 
 -- the places after an interval, with the position from which reading goes on and the opening
-unfoldable pub behind : Places → (from opening : ℕ) → Places
-behind p from opening =
+unfoldable pub after : Places → (from opening : ℕ) → Places
+after p from opening =
     record {
       next = cond (eqb (p .next) lastPlace) (p .next) (p .next + 1);
       from = from;

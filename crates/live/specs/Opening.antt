@@ -23,7 +23,7 @@ use Rattle.frame_machine.specs.Stated.{Keeping}
 use Rattle.live.specs.declared.Places.{Places}
 use Rattle.live.specs.declared.Live.{Live}
 use Rattle.live.specs.Feeding.{phaseBy, heldBy, beginsAnew}
-use Rattle.live.specs.Held.{lastPlace, phaseNumber, insideOf, behind}
+use Rattle.live.specs.Held.{lastPlace, phaseNumber, insideOf, after}
 use Rattle.live.specs.Hearing.{Reached, Counts, room, all-heard, Rest, seeks, hears, Hears}
 
 -- ## The machine
@@ -47,11 +47,11 @@ pub last-is : lastPlace + 1 ≡ 2 ^ 64
 last-is = refl
 
 -- One interval more is counted, up to the last place.
-pub counts-on : (n : ℕ) (p : Places) (from opening : ℕ) → p .next ≡ n → n ≤ lastPlace → Counts (n + 1) (behind p from opening)
-unfolding behind
+pub counts-on : (n : ℕ) (p : Places) (from opening : ℕ) → p .next ≡ n → n ≤ lastPlace → Counts (n + 1) (after p from opening)
+unfolding after
 counts-on n p from opening e h = go (eq-or-lt-of-le h)
   where
-    go : (n ≡ lastPlace) ⊎ (n < lastPlace) → Counts (n + 1) (behind p from opening)
+    go : (n ≡ lastPlace) ⊎ (n < lastPlace) → Counts (n + 1) (after p from opening)
     go (inl l) = all-heard (rw (eq-eqb (p .next) lastPlace (e ∙ l))) (ap (λ (x : ℕ). x + 1) l)
     go (inr l) =
         let ne : eqb (p .next) lastPlace ≡ false = ne-eqb (p .next) lastPlace (λ x. omega (arith, e)) in
@@ -64,7 +64,7 @@ counts-on n p from opening e h = go (eq-or-lt-of-le h)
 module _ (l : Line) (k : ℕ) (long : l .count ≡ k + 1) (v : Live) (at-k : v .places .next ≡ k) (has-room : mostBytes ≤ length (v .inside .kept)) where
   pub begins : (from : ℕ) → from ≤ k → firstIn (endAt l) from k ≡ nowhere → (b : Bool) → endAt l k ≡ b
       → Rest l (beginsAnew v from b .places) (beginsAnew v from b .inside)
-  unfolding beginsAnew behind opening
+  unfolding beginsAnew after opening
   begins from h none true e =
       let opens : firstIn (endAt l) from (l .count) ≡ at (v .places .next) = rw (long, first-next (endAt l) from k h, none, e, at-k) in
       hears fresh (v .inside .kept) refl opens
@@ -76,7 +76,7 @@ module _ (l : Line) (k : ℕ) (long : l .count ≡ k + 1) (v : Live) (at-k : v .
   -- A reader that then goes on from there has heard all of it.
   pub begins-hears : (xs : List Outcome) (from : ℕ) → k ≤ lastPlace → from ≤ k → firstIn (endAt l) from k ≡ nowhere → (b : Bool) → endAt l k ≡ b
       → Reached l from xs → Hears l xs (beginsAnew v from b)
-  unfolding beginsAnew behind
+  unfolding beginsAnew after
   begins-hears xs from fits h none true e r =
       record {
         reached = r;

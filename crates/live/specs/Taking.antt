@@ -30,7 +30,7 @@ use Rattle.frame_machine.specs.Keeping.{SaysKept, kept-by}
 use Rattle.frame_machine.specs.Stated.{Kept, Keeping}
 use Rattle.live.specs.declared.Live.{Live}
 use Rattle.live.specs.Feeding.{heldBy, beginsAnew, goesOn as goesOnWith, fedBy, signAt, stepAt, endsAt, laidBy}
-use Rattle.live.specs.Held.{lastPlace, insideOf, behind}
+use Rattle.live.specs.Held.{lastPlace, insideOf, after}
 use Rattle.live.specs.Hearing.{Reached, Counts, hears, Hears, Takes, decides-nothing, decides-one}
 use Rattle.live.specs.Opening.{held-inside, counts-on, begins-hears}
 
@@ -122,7 +122,7 @@ module _ (l l' : Line) (long : l' .count ≡ l .count + 1) (same : (j : ℕ) →
 
   -- The frame goes on.
   goes : (m' : Machine) (kept' : List ℕ) → decides mostBytes l' o k ≡ false → Keeping mostBytes l' o (k + 1) m' kept' → Hears l' xs (goesOnWith v m' kept')
-  unfolding goesOnWith behind
+  unfolding goesOnWith after
   goes m' kept' d b =
       record {
         reached = reached-on l l' long same was;

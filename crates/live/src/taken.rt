@@ -5,7 +5,7 @@ ghost use lib.ListN.{length};
 ghost use Rattle.frame.specs.Faults.{mostBytes};
 ghost use Rattle.frame.specs.Line.{activeAt};
 ghost use Rattle.live.specs.Feeding.{beginsAnew, goesOn, laidBy, stillOpen, closedFrame, faultHeard, waiting, fedBy, stepAt, endsAt};
-ghost use Rattle.live.specs.Held.{behind as behindOf};
+ghost use Rattle.live.specs.Held.{after as afterOf};
 use crate::Fed;
 use crate::Heard;
 use crate::Live;
@@ -33,8 +33,8 @@ fn active_at(place: u64) -> bool
 }
 
 // The places after an interval. After the last place there is none to count on to.
-fn behind(places: Places, from: u64, opening: u64) -> Places
-    ensures { λ r. ⌜ r ≡ behindOf places from opening ⌝ }
+fn after(places: Places, from: u64, opening: u64) -> Places
+    ensures { λ r. ⌜ r ≡ afterOf places from opening ⌝ }
 {
     let next = places.next;
     if next == LAST_PLACE {
@@ -64,12 +64,12 @@ fn begins_anew(live: Live, from: u64, end: bool) -> Live
     let opening = places.opening;
     if end {
         return Live {
-            places: behind(places, from, here),
+            places: after(places, from, here),
             inside: inside_of(frame_machine::start(), kept),
         };
     }
     Live {
-        places: behind(places, from, opening),
+        places: after(places, from, opening),
         inside: outside(kept),
     }
 }
@@ -82,7 +82,7 @@ fn goes_on(live: Live, machine: Machine, kept: [u8; MOST_BYTES]) -> Live
     let from = places.from;
     let opening = places.opening;
     Live {
-        places: behind(places, from, opening),
+        places: after(places, from, opening),
         inside: inside_of(machine, kept),
     }
 }

@@ -32,11 +32,11 @@ fail-requires-3 c κs = search needs
 returns-3 : tie.Need-returns-3
 returns-3 c = c .fail3 .ensures ∙ close-judged _ _ _ _ _ (c .before .before .before .before .before .before .before .asked-of .ensures) (c .before .before .before .before .before .if1 .left) _ (c .before .before .before .before .too-few .ensures) (c .before .before .before .if2 .left) (c .before .before .wrong-check .ensures) (c .before .if3 .taken) _ refl
 
-behind-eod-requires : tie.Need-behind-eod-requires
-behind-eod-requires c κs = search needs
+after-eod-requires : tie.Need-after-eod-requires
+after-eod-requires c κs = search needs
 
 returns-4 : tie.Need-returns-4
-returns-4 c = c .behind-eod .ensures ∙ close-judged _ _ _ _ _ (c .before .before .before .before .before .before .before .before .asked-of .ensures) (c .before .before .before .before .before .before .if1 .left) _ (c .before .before .before .before .before .too-few .ensures) (c .before .before .before .before .if2 .left) (c .before .before .before .wrong-check .ensures) (c .before .before .if3 .left) _ (c .before .if4 .taken)
+returns-4 c = c .after-eod .ensures ∙ close-judged _ _ _ _ _ (c .before .before .before .before .before .before .before .before .asked-of .ensures) (c .before .before .before .before .before .before .if1 .left) _ (c .before .before .before .before .before .too-few .ensures) (c .before .before .before .before .if2 .left) (c .before .before .before .wrong-check .ensures) (c .before .before .if3 .left) _ (c .before .if4 .taken)
 
 close-requires : tie.Need-close-requires
 close-requires c κs = search needs
@@ -57,7 +57,7 @@ close-part-spec =
     wrong-check-requires
     fail-requires-3
     returns-3
-    behind-eod-requires
+    after-eod-requires
     returns-4
     close-requires
     returns-5)

@@ -4,8 +4,8 @@ use borrow.Author.Needs.{needs}
 use Rattle.live.proofs.taken.begins_anew.Statement.{statement}
 use Rattle.live.proofs.taken.begins_anew.Tie as tie
 
-behind-requires : tie.Need-behind-requires
-behind-requires c κs = search needs
+after-requires : tie.Need-after-requires
+after-requires c κs = search needs
 
 start-requires : tie.Need-start-requires
 start-requires c κs = search needs
@@ -15,26 +15,26 @@ inside-of-requires c κs = search needs
 
 returns : tie.Need-returns
 unfolding beginsAnew
-returns c = rw (c .before .before .before .if1 .taken, c .inside-of .ensures, c .before .start .ensures, c .before .before .behind .ensures)
+returns c = rw (c .before .before .before .if1 .taken, c .inside-of .ensures, c .before .start .ensures, c .before .before .after .ensures)
 
-behind-requires-2 : tie.Need-behind-requires-2
-behind-requires-2 c κs = search needs
+after-requires-2 : tie.Need-after-requires-2
+after-requires-2 c κs = search needs
 
 outside-requires : tie.Need-outside-requires
 outside-requires c κs = search needs
 
 returns-2 : tie.Need-returns-2
 unfolding beginsAnew
-returns-2 c = rw (c .before .before .if1 .left, c .outside .ensures, c .before .behind2 .ensures)
+returns-2 c = rw (c .before .before .if1 .left, c .outside .ensures, c .before .after2 .ensures)
 
 pub begins-anew-spec : {M : Type 1} → statement M
 begins-anew-spec =
     tie.close
     (tie.spec
-    behind-requires
+    after-requires
     start-requires
     inside-of-requires
     returns
-    behind-requires-2
+    after-requires-2
     outside-requires
     returns-2)

@@ -4,15 +4,15 @@ use borrow.Author.Needs.{needs}
 use Rattle.live.proofs.taken.goes_on.Statement.{statement}
 use Rattle.live.proofs.taken.goes_on.Tie as tie
 
-behind-requires : tie.Need-behind-requires
-behind-requires c κs = search needs
+after-requires : tie.Need-after-requires
+after-requires c κs = search needs
 
 inside-of-requires : tie.Need-inside-of-requires
 inside-of-requires c κs = search needs
 
 returns : tie.Need-returns
 unfolding goesOn
-returns c = rw (c .inside-of .ensures, c .before .behind .ensures)
+returns c = rw (c .inside-of .ensures, c .before .after .ensures)
 
 pub goes-on-spec : {M : Type 1} → statement M
-goes-on-spec = tie.close (tie.spec behind-requires inside-of-requires returns)
+goes-on-spec = tie.close (tie.spec after-requires inside-of-requires returns)

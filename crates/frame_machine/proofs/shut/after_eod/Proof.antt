@@ -1,10 +1,10 @@
--- `frame_machine::shut::behind_eod` meets its contract, phase by phase.
+-- `frame_machine::shut::after_eod` meets its contract, phase by phase.
 use mathlib.Core.Path.{ap, sym, _∙_}
 use Rattle.frame_machine.specs.declared.Phase.{Phase}
 use Rattle.frame_machine.specs.Steps.{eodIn}
 use borrow.Author.Needs.{needs}
-use Rattle.frame_machine.proofs.shut.behind_eod.Statement.{statement}
-use Rattle.frame_machine.proofs.shut.behind_eod.Tie as tie
+use Rattle.frame_machine.proofs.shut.after_eod.Statement.{statement}
+use Rattle.frame_machine.proofs.shut.after_eod.Tie as tie
 
 enum-told : tie.Need-enum-told
 enum-told c = search needs
@@ -51,8 +51,8 @@ returns-4 c = c .fail .ensures ∙ ap (λ (x : Phase). eodIn x (c .before .befor
 returns-5 : tie.Need-returns-5
 returns-5 c = c .fail2 .ensures ∙ ap (λ (x : Phase). eodIn x (c .before .before .before .args .machine)) (sym (c .before .enum-told5 .given .1))
 
-pub behind-eod-spec : {M : Type 1} → statement M
-behind-eod-spec =
+pub after-eod-spec : {M : Type 1} → statement M
+after-eod-spec =
     tie.close
     (tie.spec
     enum-told
