@@ -22,7 +22,8 @@ use bench_lane::BITS_OF_BYTE;
 use symbol::Symbol;
 use units::Micros;
 
-// What place i asks of the line at bit j, both from 0 on.
+// What place i asks of the line at bit j, both from 0 on. Most places have lost soon in most rounds, and of those no more is
+// read.
 fn asks_at(
     counts: &[usize; MOST_STATIONS],
     frames: &[[u8; MOST_SENT]; MOST_STATIONS],
@@ -36,8 +37,12 @@ fn asks_at(
     requires { ⌜ (i < mostStations) × (j < mostBits) ⌝ }
     ensures { λ r. ⌜ r ≡ askOf (laneAt (lanesOf (now (counts .entry)) (now (frames .entry)) (now (shorts .entry)) (now (longs .entry))) (now (lost .entry)) j i) active j ⌝ }
 {
+    let lost_at = lost[i];
+    if 0 < lost_at {
+        return Ask::Out;
+    }
     let byte = frames[i][j / BITS_OF_BYTE];
-    bench_lane::asks(counts[i], byte, shorts[i], longs[i], lost[i], active, j)
+    bench_lane::asks(counts[i], byte, shorts[i], longs[i], lost_at, active, j)
 }
 
 // What all places ask of the line at bit j.

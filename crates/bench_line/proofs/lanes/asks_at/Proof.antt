@@ -1,8 +1,21 @@
--- `bench_line::asks_at` meets its contract: what there is of the place at this bit.
+-- `bench_line::asks_at` meets its contract: the place has lost, or asks by what there is of it at this bit.
+use mathlib.Core.Path.{sym}
+use borrow.Author.Tests.{lt-ltb}
+use Rattle.bench_lane.specs.LaneLaws.{out-lost}
 use Rattle.bench_line.specs.Lanes.{laneAt}
 use borrow.Author.Needs.{needs}
 use Rattle.bench_line.proofs.lanes.asks_at.Statement.{statement}
 use Rattle.bench_line.proofs.lanes.asks_at.Tie as tie
+
+mul-lost-at : tie.Need-mul-lost-at
+mul-lost-at c = search needs
+
+element-copy-out-lost-at : tie.Need-element-copy-out-lost-at
+element-copy-out-lost-at c = search needs
+
+returns : tie.Need-returns
+unfolding laneAt
+returns c = sym (out-lost _ _ _ (lt-ltb _ _ (c .if1 .taken)))
 
 mul-byte : tie.Need-mul-byte
 mul-byte c = search needs
@@ -31,23 +44,20 @@ mul-asks-3 c = search needs
 element-copy-out-asks-3 : tie.Need-element-copy-out-asks-3
 element-copy-out-asks-3 c = search needs
 
-mul-asks-4 : tie.Need-mul-asks-4
-mul-asks-4 c = search needs
-
-element-copy-out-asks-4 : tie.Need-element-copy-out-asks-4
-element-copy-out-asks-4 c = search needs
-
 asks-requires : tie.Need-asks-requires
 asks-requires c κs = search needs
 
-returns : tie.Need-returns
+returns-2 : tie.Need-returns-2
 unfolding laneAt
-returns c = c .asks .ensures
+returns-2 c = c .asks .ensures
 
 pub asks-at-spec : {M : Type 1} → statement M
 asks-at-spec =
     tie.close
     (tie.spec
+    mul-lost-at
+    element-copy-out-lost-at
+    returns
     mul-byte
     index-1-byte
     index-2-byte
@@ -57,7 +67,5 @@ asks-at-spec =
     element-copy-out-asks-2
     mul-asks-3
     element-copy-out-asks-3
-    mul-asks-4
-    element-copy-out-asks-4
     asks-requires
-    returns)
+    returns-2)
