@@ -11,12 +11,12 @@ use lib.Dec.{eqb, ltb}
 use lib.ListN.{length}
 use borrow.Author.Tests.{lt-ltb, ltb-true, ltb-false, eqb-true, eqb-false}
 use Rattle.laws.specs.Settled.{settled}
+use Rattle.laws.specs.Rules.{TurnedAway}
 use Rattle.laws.specs.Tests.{never, or-right}
 use Rattle.desk_text.specs.declared.Judged.{Judged}
 use Rattle.desk_text.specs.declared.Judged.the-variants.{Good, Bad, FewLentWords}
 use Rattle.desk_text.specs.declared.Answered.{Answered}
 use Rattle.desk_text.specs.declared.Answered.the-variants.{Report, Refused, FewLent}
-use Rattle.frame.specs.Refusals.{TurnedAway}
 use Rattle.desk_text.specs.Input.{lines, firstBad, mostWidths, customerOf, vehicleOf, recordingOf}
 use Rattle.desk_text.specs.Report.{deskOf}
 use Rattle.desk_text.specs.Calls.{good, bad, few, judging, Tale, judgedTold, verdictTells, laidOn, JudgePromise, mostText, reported, turnedDown, short, lentShort, answering, Told, answeredTold, pageTells, DeskPromise}
@@ -112,7 +112,7 @@ module _ {s entry exit : List ℕ} {r : Judged} (q : JudgePromise s entry exit r
   judge-exactly = rw (q .tells-it) (rules (judge-way s (length entry)))
 
   -- 61, and no word is changed
-  pub judge-61 : TurnedAway (judgedTold r .number) 61 (length entry < mostWidths) entry exit
+  pub judge-61 : TurnedAway (judgedTold r .number) 61 (length entry < mostWidths) (exit ≡ entry)
   judge-61 = record { exactly = judge-exactly .short-exactly; unchanged = λ h. q .lends-it ∙ rw (lt-ltb (length entry) mostWidths h) }
 
 short-test : (words bytes : ℕ) → Short words bytes → lentShort words bytes ≡ true
@@ -146,11 +146,11 @@ module _ {s words left entry exit : List ℕ} {r : Answered} (q : DeskPromise s 
   desk-exactly = rw (q .tells-it) (rules (desk-way s (length words) (length entry)))
 
   -- 61, and no byte is changed ..
-  pub desk-61 : TurnedAway (answeredTold r .number) 61 (Short (length words) (length entry)) entry exit
+  pub desk-61 : TurnedAway (answeredTold r .number) 61 (Short (length words) (length entry)) (exit ≡ entry)
   desk-61 = record { exactly = desk-exactly .short-exactly; unchanged = λ h. q .lends-it ∙ rw (short-test (length words) (length entry) h) }
 
   -- .. and no word
-  pub desk-61-words : TurnedAway (answeredTold r .number) 61 (Short (length words) (length entry)) words left
+  pub desk-61-words : TurnedAway (answeredTold r .number) 61 (Short (length words) (length entry)) (left ≡ words)
   desk-61-words = record { exactly = desk-exactly .short-exactly; unchanged = λ h. q .words-it ∙ rw (short-test (length words) (length entry) h) }
 
   -- Where enough is lent, the text stands first in the lent bytes, the rest of which is unchanged, and its length is told.

@@ -1,6 +1,6 @@
 -- Laws.
--- Each fault in words of its own: what it takes for an interval to be at that fault, with what the rows judged before it leave
--- open, and no more. The rows 16 to 19 are the ones among which the order matters; the others exclude each other by what is
+-- Each fault in words of its own: what it takes for an interval to be at that fault, with what the rules judged before it leave
+-- open, and no more. The rules 16 to 19 are the ones among which the order matters; the others exclude each other by what is
 -- shown.
 use Prim.Native.Nat.{ℕ, zero, suc, _%_, _<_}
 use mathlib.Core.Path.{_≡_, refl, sym, _∙_}

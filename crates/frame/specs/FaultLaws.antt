@@ -1,13 +1,13 @@
 -- Laws.
--- The faults, row by row: reading answers a fault's number exactly when, at the earliest interval that decides the frame,
--- that fault's row holds and no row that is judged before it does.
+-- The faults, rule by rule: reading answers a fault's number exactly when, at the earliest interval that decides the frame,
+-- that fault's rule holds and no rule that is judged before it does.
 use Prim.Native.Nat.{ℕ, _<_}
 use mathlib.Core.Path.{_≡_, refl, _∙_}
 use mathlib.Core.Logic.{_↔_}
 use Rattle.frame.specs.Line.{Line}
 use Rattle.frame.specs.Standing.{stands}
 use Rattle.frame.specs.Reading.{faulty, decided, readOn}
-use Rattle.frame.specs.RowLaws.{fault-is}
+use Rattle.frame.specs.FaultRuleLaws.{fault-is}
 use Rattle.frame.specs.Outcomes.{opened-reading, OpenedBy, opened-by}
 use Rattle.frame.specs.Decided.{faulty-exactly}
 use Rattle.frame.specs.ReadStated.{AtFault, ReadsFault}
@@ -17,8 +17,8 @@ pub fault-exactly : (limit : ℕ) (l : Line) (o n k : ℕ) → 0 < n → (decide
 fault-exactly limit l o n k h =
     let law = faulty-exactly limit l o n k h in
     let meaning = fault-is limit (stands l o k) (l .shows k) n h in (
-      λ e. record { earliest = law .0 e .0; first-row = meaning .0 (law .0 e .1) },
-      λ a. law .1 (a .earliest, meaning .1 (a .first-row)),
+      λ e. record { earliest = law .0 e .0; first-rule = meaning .0 (law .0 e .1) },
+      λ a. law .1 (a .earliest, meaning .1 (a .first-rule)),
     )
 
 -- ## From the call's own arguments

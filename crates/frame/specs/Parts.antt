@@ -7,7 +7,7 @@ use mathlib.Core.List.{List, [], _∷_, _++_, append-assoc, map}
 use native.Mathlib.Omega.{arith}
 use lib.Dec.{eqb, ltb}
 use lib.ListN.{length, length-append}
-use borrow.Author.Tests.{eq-eqb, ne-eqb, le-ltb}
+use borrow.Author.Tests.{eqb-true, eqb-false, eq-eqb, ne-eqb, le-ltb}
 use Rattle.laws.specs.Tests.{never}
 use Rattle.checkbyte.specs.Register.{withCheck, Bytes}
 use Rattle.frame.specs.Signs.{Sign, wrong, sof, bit, shut, isEod, shuts}
@@ -15,8 +15,7 @@ use Rattle.frame.specs.Bits.{bytes, bitsOf}
 use Rattle.frame.specs.Standing.{plain, checked, Standing, atSof, inMain, atNormalization, inResponse, withBits, counted, moved}
 use Rattle.frame.specs.Faults.{facts, partBytes, checksOut, whole, fault}
 use Rattle.frame.specs.WidthLaws.{with-check-length}
-use Rattle.frame.specs.Meant.{stable-equal}
-use Rattle.frame.specs.RowLaws.{no-fault-is}
+use Rattle.frame.specs.FaultRuleLaws.{no-fault-is}
 use Rattle.frame.specs.ByteLaws.{bytes-few, bytes-back, bits-length, with-checks, with-bytes}
 use Rattle.frame.specs.Passing.{Passes, stay, pass, Closes, close, on}
 use Rattle.frame.specs.ReadStated.{Complete, ChecksRight}
@@ -28,7 +27,7 @@ pub and-false : (b : Bool) → (b && false) ≡ false
 and-false true = refl
 and-false false = refl
 
--- the fault of an EOD or end, by the standing with the bit that it completes: rows 16, 17, 18 and 19 alone are judged of it
+-- the fault of an EOD or end, by the standing with the bit that it completes: rules 16, 17, 18 and 19 alone are judged of it
 abbrev pub shutting : Standing → (eod : Bool) → ℕ
 shutting st eod =
     cond (not (whole (facts st .part))) 16
@@ -54,6 +53,14 @@ passes-checks : (h c : Bool) → ¬ ((h ≡ true) × (¬ (c ≡ true))) → (h &
 passes-checks true true n = refl
 passes-checks true false n = absurd (n (refl, λ e. never e refl))
 passes-checks false c n = refl
+
+-- two numbers that are not unequal are equal
+stable-equal : (a b : ℕ) → ¬ ¬ (a ≡ b) → a ≡ b
+stable-equal a b h = go (eqb a b) refl
+  where
+    go : (t : Bool) → eqb a b ≡ t → a ≡ b
+    go true e = eqb-true a b e
+    go false e = absurd (h (eqb-false a b e))
 
 -- The other way: a part after which an EOD or end is at no fault is complete, and its check is right.
 pub shut-complete : (limit : ℕ) (st : Standing) (s : Sign) → shuts s ≡ true → fault limit st s ≡ 0 → Complete (counted st s) × ChecksRight (counted st s)

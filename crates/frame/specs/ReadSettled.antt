@@ -10,6 +10,7 @@ use native.Mathlib.Omega.{arith}
 use lib.Dec.{eqb}
 use lib.ListN.{length}
 use Rattle.laws.specs.Settled.{settled}
+use Rattle.laws.specs.Rules.{TurnedAway}
 use Rattle.frame.specs.declared.Fault.{Fault}
 use Rattle.frame.specs.declared.Fault.the-variants.{Noise, NoSof, Break, Stuck, LateSof, SplitByte, FewBytes, WrongCheck, EodAfterResponse, ThirteenthByte}
 use Rattle.frame.specs.declared.Reading.{Reading}
@@ -19,9 +20,8 @@ use Rattle.frame.specs.Standing.{stands}
 use Rattle.frame.specs.Faults.{mostBytes}
 use Rattle.frame.specs.Reading.{Outcome, good, quiet, unfinished, faulty, refused, decided, reading}
 use Rattle.frame.specs.Answers.{Told, told, tells, written, ReadPromise}
-use Rattle.frame.specs.Refusals.{TurnedAway}
 use Rattle.frame.specs.ShownLaws.{wrong-small}
-use Rattle.frame.specs.RowLaws.{fault-number}
+use Rattle.frame.specs.FaultRuleLaws.{fault-number}
 use Rattle.frame.specs.Decided.{Decision, isUnfinished, isGood, isFaulty, decision}
 use Rattle.frame.specs.Outcomes.{comes}
 use Rattle.frame.specs.ReadStated.{Comes, isPast, isShort, isQuiet, isOpened}
@@ -115,13 +115,13 @@ module _ {ws : List ℕ} {p : ℕ} {entry exit : List ℕ} {r : Reading} (q : Re
   pub nothing-written : 0 < told r .number → exit ≡ entry
   nothing-written h = q .lends-it ∙ rw (unwritten (reading ws p (length entry)) (rw (← its-number) h))
 
-  refusal : (n : ℕ) (rule : Type 0) → 0 < n → (tells (reading ws p (length entry)) .number ≡ n) ↔ rule → TurnedAway (told r .number) n rule entry exit
+  refusal : (n : ℕ) (rule : Type 0) → 0 < n → (tells (reading ws p (length entry)) .number ≡ n) ↔ rule → TurnedAway (told r .number) n rule (exit ≡ entry)
   refusal n rule h e = record { exactly = rw its-number e; unchanged = λ y. nothing-written (rw (its-number ∙ e .1 y) h) }
 
   -- 31: "position past the recording's length".
-  pub read-31 : TurnedAway (told r .number) 31 (length ws < p) entry exit
+  pub read-31 : TurnedAway (told r .number) 31 (length ws < p) (exit ≡ entry)
   read-31 = refusal 31 (length ws < p) (omega arith) (rules .past)
 
   -- 32: "lent bytes under 12", where 31 does not apply.
-  pub read-32 : TurnedAway (told r .number) 32 ((p ≤ length ws) × (length entry < mostBytes)) entry exit
+  pub read-32 : TurnedAway (told r .number) 32 ((p ≤ length ws) × (length entry < mostBytes)) (exit ≡ entry)
   read-32 = refusal 32 ((p ≤ length ws) × (length entry < mostBytes)) (omega arith) (rules .short)

@@ -11,7 +11,7 @@ use Rattle.frame.specs.Bits.{value}
 use Rattle.frame.specs.Faults.{facts, partBytes, checksOut, mainBytes, responseBytes}
 use Rattle.frame.specs.Line.{Line, endAt}
 use Rattle.frame.specs.Reading.{faultAt, Good, frameAt, Outcome, refused, quiet, decided, good, unfinished, faulty}
-use Rattle.frame.specs.Rows.{Row, FirstFault}
+use Rattle.frame.specs.FaultRules.{FirstFault}
 use Rattle.frame.specs.Signs.{Sign, wrongOf, isBit, isSof, shuts, isEod}
 use Rattle.frame.specs.Standing.{stands, Standing, counted}
 
@@ -44,11 +44,6 @@ pub data WrongWidth (active : Bool) (w : ℕ) : ℕ → Type 0 where
   isNoise : Window active Noise w → WrongWidth active w 11
   isBreak : Window active Break w → WrongWidth active w 13
   isStuck : Window active Stuck w → WrongWidth active w 14
-
--- no row holds
-abbrev pub NoneHolds : List Row → Type 0
-NoneHolds [] = Unit {0}
-NoneHolds (r ∷ rs) = (¬ (r .when .Holds)) × NoneHolds rs
 
 -- No interval after the opening o and before k is at fault, and none of them is an end.
 pub record Undecided (limit : ℕ) (l : Line) (o k : ℕ) : Type 0 where
@@ -102,12 +97,12 @@ pub record Unclosed (limit : ℕ) (l : Line) (p lent o : ℕ) : Type 0 where
   pub opens : Opens l p o
   pub none-decides : Undecided limit l o (l .count)
 
--- k is the earliest interval that decides the frame opened at o; there row n holds, and no row that is judged before it.
+-- k is the earliest interval that decides the frame opened at o; there rule n holds, and no rule that is judged before it.
 pub record AtFault (limit : ℕ) (l : Line) (o n k : ℕ) : Type 0 where
   pub earliest : Earliest limit l o k
-  pub first-row : FirstFault n limit (stands l o k) (l .shows k)
+  pub first-rule : FirstFault n limit (stands l o k) (l .shows k)
 
--- Reading from p, with bytes enough lent: the frame that opens there is at fault at k, by row n.
+-- Reading from p, with bytes enough lent: the frame that opens there is at fault at k, by rule n.
 pub record ReadsFault (limit : ℕ) (l : Line) (p lent n k : ℕ) : Type 0 where
   pub enough : limit ≤ lent
   pub opening : ℕ

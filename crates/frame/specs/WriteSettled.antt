@@ -11,6 +11,7 @@ use lib.Dec.{eqb, ltb}
 use lib.ListN.{length}
 use borrow.Author.Tests.{ltb-true, ltb-false}
 use Rattle.laws.specs.Settled.{settled}
+use Rattle.laws.specs.Rules.{TurnedAway}
 use Rattle.laws.specs.Tests.{never}
 use Rattle.symbol.specs.declared.Clock.{Clock}
 use Rattle.symbol.specs.Clocks.{goodOf}
@@ -18,7 +19,6 @@ use Rattle.frame.specs.declared.Response.{Response}
 use Rattle.frame.specs.declared.Writing.{Writing}
 use Rattle.frame.specs.declared.Writing.the-variants.{Words, BadClock, BadMessage, FewLentWords}
 use Rattle.frame.specs.Writing.{mostWords, frameWords, badMessage, Sheet, words, turnedAway, writing, Count, counted, counts, wordsAfter, WritePromise}
-use Rattle.frame.specs.Refusals.{TurnedAway}
 use Rattle.frame.specs.WriteStated.{Comes, isBadClock, isBadMessage, isShort, isWritten, ClockBad, MessageBad, WordsFew}
 
 -- ## One answer
@@ -107,17 +107,17 @@ module _ {c : Clock} {main : List ℕ} {kind : Response} {rs entry exit : List �
   pub nothing-written : 0 < counted r .number → exit ≡ entry
   nothing-written h = q .lends-it ∙ unwritten (writing c main kind rs (length entry)) entry (rw (← its-number) h)
 
-  refusal : (n : ℕ) (rule : Type 0) → 0 < n → (counts (writing c main kind rs (length entry)) .number ≡ n) ↔ rule → TurnedAway (counted r .number) n rule entry exit
+  refusal : (n : ℕ) (rule : Type 0) → 0 < n → (counts (writing c main kind rs (length entry)) .number ≡ n) ↔ rule → TurnedAway (counted r .number) n rule (exit ≡ entry)
   refusal n rule h e = record { exactly = rw its-number e; unchanged = λ y. nothing-written (rw (its-number ∙ e .1 y) h) }
 
   -- 36: "clock outside the sending windows".
-  pub write-36 : TurnedAway (counted r .number) 36 (ClockBad c) entry exit
+  pub write-36 : TurnedAway (counted r .number) 36 (ClockBad c) (exit ≡ entry)
   write-36 = refusal 36 (ClockBad c) (omega arith) (rules .clock)
 
   -- 37: "message empty, response empty where one is asked for, or more than 12 bytes with checks", where 36 does not apply.
-  pub write-37 : TurnedAway (counted r .number) 37 (MessageBad c main kind rs) entry exit
+  pub write-37 : TurnedAway (counted r .number) 37 (MessageBad c main kind rs) (exit ≡ entry)
   write-37 = refusal 37 (MessageBad c main kind rs) (omega arith) (rules .message)
 
   -- 32: "lent words under 101", where neither 36 nor 37 applies.
-  pub write-32 : TurnedAway (counted r .number) 32 (WordsFew c main kind rs (length entry)) entry exit
+  pub write-32 : TurnedAway (counted r .number) 32 (WordsFew c main kind rs (length entry)) (exit ≡ entry)
   write-32 = refusal 32 (WordsFew c main kind rs (length entry)) (omega arith) (rules .few)

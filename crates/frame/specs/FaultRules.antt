@@ -1,19 +1,16 @@
 -- Definitions.
--- The rows 11 to 20 of document 01's table "What reading answers" as propositions, in the order in which they are judged at
--- one interval.
+-- The faults 11 to 20 of document 01's table "What reading answers" as rules, in the order in which they are judged at one
+-- interval.
 use Prim.Native.Nat.{ℕ, _%_}
 use mathlib.Core.Path.{_≡_}
-use mathlib.Core.Bool.{cond}
 use mathlib.Core.List.{List, [], _∷_, _++_}
 use mathlib.Core.Logic.{_⊎_}
-use lib.Dec.{eqb}
 use lib.ListN.{length}
+use Rattle.laws.specs.Meant.{Test, both, isNot, set, equals, below}
+use Rattle.laws.specs.Rules.{Rule, rule, FirstToHold}
 use Rattle.frame.specs.Signs.{Sign, wrongOf, isEod, isBit, isSof, shuts}
 use Rattle.frame.specs.Standing.{Standing, counted}
 use Rattle.frame.specs.Faults.{facts, mainBytes, responseBytes, partBytes, checksOut}
-use Rattle.frame.specs.Meant.{Test, both, isNot, set, equals, below}
-
--- ## The rows
 
 -- 11, 14, 13: the interval is wrong by itself, by what it shows
 abbrev pub wrongItself : Sign → Test
@@ -52,39 +49,18 @@ module _ (limit : ℕ) (st : Standing) (s : Sign) where
   abbrev pub bitPastLimit : Test
   bitPastLimit = both (set (isBit s)) (both (set (facts st .inPart)) (equals (length (mainBytes st ++ responseBytes st)) limit))
 
--- a row: its number, and when it holds
-pub record Row : Type 1 where
-  pub number : ℕ
-  pub when : Test
-
--- the row of a number
-abbrev pub row : ℕ → Test → Row
-row n t = record { number = n; when = t }
-
--- "At one interval the order is 11, 14, 13, 12, 15, 16, 17, 18, 19, 20": the rows of an interval that is not wrong by itself
-abbrev pub rows : (limit : ℕ) → Standing → Sign → List Row
-rows limit st s =
-    row 12 (bitForSof limit st s)
-    ∷ row 15 (sofAgain limit st s)
-    ∷ row 16 (byteSplit limit st s)
-    ∷ row 17 (bytesFew limit st s)
-    ∷ row 18 (checkWrong limit st s)
-    ∷ row 19 (eodAfterResponse limit st s)
-    ∷ row 20 (bitPastLimit limit st s)
+-- "At one interval the order is 11, 14, 13, 12, 15, 16, 17, 18, 19, 20": the rules of an interval that is not wrong by itself
+abbrev pub faultRules : (limit : ℕ) → Standing → Sign → List Rule
+faultRules limit st s =
+    rule 12 (bitForSof limit st s)
+    ∷ rule 15 (sofAgain limit st s)
+    ∷ rule 16 (byteSplit limit st s)
+    ∷ rule 17 (bytesFew limit st s)
+    ∷ rule 18 (checkWrong limit st s)
+    ∷ rule 19 (eodAfterResponse limit st s)
+    ∷ rule 20 (bitPastLimit limit st s)
     ∷ []
 
--- ## The first row that holds
-
--- its number, and 0 where none does
-abbrev pub firstRow : List Row → ℕ
-firstRow [] = 0
-firstRow (r ∷ rs) = cond (r .when .says) (r .number) (firstRow rs)
-
--- The row of number n holds, and no row before it does.
-abbrev pub FirstToHold : ℕ → List Row → Type 0
-FirstToHold n [] = ⊥
-FirstToHold n (r ∷ rs) = cond (eqb n (r .number)) (r .when .Holds) ((¬ (r .when .Holds)) × FirstToHold n rs)
-
--- The interval is at fault n: it is wrong by itself, with that number; or it is not, and row n is the first that holds.
+-- The interval is at fault n: it is wrong by itself, with that number; or it is not, and rule n is the first that holds.
 abbrev pub FirstFault : (n limit : ℕ) → Standing → Sign → Type 0
-FirstFault n limit st s = (wrongOf s ≡ n) ⊎ ((wrongOf s ≡ 0) × FirstToHold n (rows limit st s))
+FirstFault n limit st s = (wrongOf s ≡ n) ⊎ ((wrongOf s ≡ 0) × FirstToHold n (faultRules limit st s))
