@@ -3,23 +3,21 @@
 -- exactly when document 01 says so, in its order: 36, 37, 32.
 use Prim.Native.Nat.{ℕ, _<_}
 use mathlib.Core.Path.{_≡_, refl, sym, ap, _∙_}
-use mathlib.Core.Bool.{Bool, true, false, cond, not}
+use mathlib.Core.Bool.{Bool, true, false, cond}
 use mathlib.Core.List.{List}
 use mathlib.Core.Logic.{_↔_}
 use native.Mathlib.Omega.{arith}
-use lib.Dec.{eqb, ltb}
+use lib.Dec.{eqb}
 use lib.ListN.{length}
-use borrow.Author.Tests.{ltb-true, ltb-false}
+use borrow.Author.Tests.{eqb-true}
 use Rattle.laws.specs.Settled.{settled}
-use Rattle.laws.specs.Rules.{TurnedAway}
-use Rattle.laws.specs.Tests.{never}
+use Rattle.laws.specs.Rules.{firstRule, FirstToHold, NoneHolds, TurnedAway}
+use Rattle.laws.specs.RuleLaws.{none-is, refuses}
 use Rattle.symbol.specs.declared.Clock.{Clock}
-use Rattle.symbol.specs.Clocks.{goodOf}
 use Rattle.frame.specs.declared.Response.{Response}
 use Rattle.frame.specs.declared.Writing.{Writing}
 use Rattle.frame.specs.declared.Writing.the-variants.{Words, BadClock, BadMessage, FewLentWords}
-use Rattle.frame.specs.Writing.{mostWords, frameWords, badMessage, Sheet, words, turnedAway, writing, Count, counted, counts, wordsAfter, WritePromise}
-use Rattle.frame.specs.WriteStated.{Comes, isBadClock, isBadMessage, isShort, isWritten, ClockBad, MessageBad, WordsFew}
+use Rattle.frame.specs.Writing.{frameWords, Sheet, words, turnedAway, writeRules, sheetBy, writing, Count, counted, counts, wordsAfter, WritePromise}
 
 -- ## One answer
 
@@ -47,50 +45,13 @@ write-settled {r} {s} a b = (counted-once r s (settled (a .counts-it) (b .counts
 
 -- ## The refusals
 
--- Every call comes to one of them.
-pub comes : (c : Clock) (main : List ℕ) (kind : Response) (rs : List ℕ) (lent : ℕ) → Comes c main kind rs lent (writing c main kind rs lent)
-unfolding writing
-comes c main kind rs lent = go (goodOf c) (badMessage main kind rs) (ltb lent mostWords) refl refl refl
+-- the number that a sheet is told with is that of the first rule that holds
+by-number : (k : ℕ) (ws : List ℕ) → counts (sheetBy k ws) .number ≡ k
+by-number k ws = go (eqb k 0) refl
   where
-    go : (g b l : Bool) → goodOf c ≡ g → badMessage main kind rs ≡ b → ltb lent mostWords ≡ l
-        → Comes c main kind rs lent (cond (not g) (turnedAway 36) (cond b (turnedAway 37) (cond l (turnedAway 32) (words (frameWords c main kind rs)))))
-    go false b l p q r = isBadClock p
-    go true true l p q r = isBadMessage p q
-    go true false true p q r = isShort p q (ltb-true lent mostWords r)
-    go true false false p q r = isWritten p q (ltb-false lent mostWords r)
-
--- each refusal's number and its rule
-record Numbered (c : Clock) (main : List ℕ) (kind : Response) (rs : List ℕ) (lent : ℕ) (x : Sheet) : Type 0 where
-  clock : (counts x .number ≡ 36) ↔ ClockBad c
-  message : (counts x .number ≡ 37) ↔ MessageBad c main kind rs
-  few : (counts x .number ≡ 32) ↔ WordsFew c main kind rs lent
-
-numbered : (c : Clock) (main : List ℕ) (kind : Response) (rs : List ℕ) (lent : ℕ) (x : Sheet) → Comes c main kind rs lent x
-    → Numbered c main kind rs lent x
-numbered c main kind rs lent x (isBadClock g) =
-    record {
-      clock = (λ e. g, λ r. refl);
-      message = (λ e. absurd (omega arith), λ r. never (r .clock) g);
-      few = (λ e. absurd (omega arith), λ r. never (r .clock) g);
-    }
-numbered c main kind rs lent x (isBadMessage g b) =
-    record {
-      clock = (λ e. absurd (omega arith), λ r. never g r);
-      message = (λ e. record { clock = g; message = b }, λ r. refl);
-      few = (λ e. absurd (omega arith), λ r. never b (r .message));
-    }
-numbered c main kind rs lent x (isShort g b l) =
-    record {
-      clock = (λ e. absurd (omega arith), λ r. never g r);
-      message = (λ e. absurd (omega arith), λ r. never (r .message) b);
-      few = (λ e. record { clock = g; message = b; few = l }, λ r. refl);
-    }
-numbered c main kind rs lent x (isWritten g b l) =
-    record {
-      clock = (λ e. absurd (omega arith), λ r. never g r);
-      message = (λ e. absurd (omega arith), λ r. never (r .message) b);
-      few = (λ e. absurd (omega arith), λ r. absurd (omega (arith, r .few)));
-    }
+    go : (t : Bool) → eqb k 0 ≡ t → counts (cond t (words ws) (turnedAway k)) .number ≡ k
+    go true e = sym (eqb-true k 0 e)
+    go false e = refl
 
 unwritten : (x : Sheet) (entry : List ℕ) → 0 < counts x .number → wordsAfter x entry ≡ entry
 unwritten (words ws) entry h = absurd (omega arith)
@@ -100,24 +61,30 @@ module _ {c : Clock} {main : List ℕ} {kind : Response} {rs entry exit : List �
   its-number : counted r .number ≡ counts (writing c main kind rs (length entry)) .number
   its-number = ap (λ (t : Count). t .number) (q .counts-it)
 
-  rules : Numbered c main kind rs (length entry) (writing c main kind rs (length entry))
-  rules = numbered c main kind rs (length entry) (writing c main kind rs (length entry)) (comes c main kind rs (length entry))
+  -- the number that the call answers is that of the first of its rules that holds
+  by-rules : counted r .number ≡ firstRule (writeRules c main kind rs (length entry))
+  unfolding writing
+  by-rules = its-number ∙ by-number (firstRule (writeRules c main kind rs (length entry))) (frameWords c main kind rs)
 
   -- A refusal changes nothing.
   pub nothing-written : 0 < counted r .number → exit ≡ entry
   nothing-written h = q .lends-it ∙ unwritten (writing c main kind rs (length entry)) entry (rw (← its-number) h)
 
-  refusal : (n : ℕ) (rule : Type 0) → 0 < n → (counts (writing c main kind rs (length entry)) .number ≡ n) ↔ rule → TurnedAway (counted r .number) n rule (exit ≡ entry)
-  refusal n rule h e = record { exactly = rw its-number e; unchanged = λ y. nothing-written (rw (its-number ∙ e .1 y) h) }
+  -- 36, 37 and 32, each exactly when its rule is the first of writing's rules to hold, and then no word is changed.
+  pub write-exactly : (n : ℕ) → 0 < n → TurnedAway (counted r .number) n (FirstToHold n (writeRules c main kind rs (length entry))) (exit ≡ entry)
+  write-exactly n h =
+      refuses n (writeRules c main kind rs (length entry)) h refl by-rules (λ e. nothing-written (rw e h))
 
-  -- 36: "clock outside the sending windows".
-  pub write-36 : TurnedAway (counted r .number) 36 (ClockBad c) (exit ≡ entry)
-  write-36 = refusal 36 (ClockBad c) (omega arith) (rules .clock)
+  -- A frame is written exactly when no rule holds ..
+  pub write-none : (counted r .number ≡ 0) ↔ NoneHolds (writeRules c main kind rs (length entry))
+  write-none =
+      let law = none-is (writeRules c main kind rs (length entry)) refl in
+      (λ e. law .0 (sym by-rules ∙ e), λ h. by-rules ∙ law .1 h)
 
-  -- 37: "message empty, response empty where one is asked for, or more than 12 bytes with checks", where 36 does not apply.
-  pub write-37 : TurnedAway (counted r .number) 37 (MessageBad c main kind rs) (exit ≡ entry)
-  write-37 = refusal 37 (MessageBad c main kind rs) (omega arith) (rules .message)
-
-  -- 32: "lent words under 101", where neither 36 nor 37 applies.
-  pub write-32 : TurnedAway (counted r .number) 32 (WordsFew c main kind rs (length entry)) (exit ≡ entry)
-  write-32 = refusal 32 (WordsFew c main kind rs (length entry)) (omega arith) (rules .few)
+  -- .. and then its words stand first in the lent words, the rest is as it was, and their number is told.
+  pub written : counted r .number ≡ 0
+      → (counted r .count ≡ length (frameWords c main kind rs)) × (exit ≡ wordsAfter (words (frameWords c main kind rs)) entry)
+  unfolding writing
+  written e =
+      let z : firstRule (writeRules c main kind rs (length entry)) ≡ 0 = sym by-rules ∙ e in
+      (ap (λ (t : Count). t .count) (q .counts-it) ∙ rw z, q .lends-it ∙ rw z)

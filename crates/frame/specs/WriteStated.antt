@@ -8,7 +8,7 @@ use lib.ListN.{length, take, drop}
 use Rattle.symbol.specs.declared.Clock.{Clock}
 use Rattle.symbol.specs.declared.Symbol.{Symbol}
 use Rattle.symbol.specs.declared.Symbol.the-variants.{Bit1, Bit0, Sof, Eod}
-use Rattle.symbol.specs.Clocks.{goodOf, nominalClock}
+use Rattle.symbol.specs.Clocks.{nominalClock}
 use Rattle.checkbyte.specs.Register.{withCheck, Bytes}
 use Rattle.frame.specs.declared.Lengths.{Lengths}
 use Rattle.frame.specs.declared.Response.{Response}
@@ -21,30 +21,7 @@ use Rattle.frame.specs.ReadStated.{Complete, ChecksRight}
 use Rattle.frame.specs.Reading.{Good}
 use Rattle.frame.specs.Standing.{Kind, plain, checked, Standing, atSof, inMain, atNormalization, inResponse, stands}
 use Rattle.frame.specs.Waves.{bitSymbols}
-use Rattle.frame.specs.Writing.{Sheet, turnedAway, badMessage, mostWords, words, frameWords, responseSent, byteWidths, responseWidths}
-
--- Every call comes to one of these.
-pub data Comes (c : Clock) (main : List ℕ) (kind : Response) (rs : List ℕ) (lent : ℕ) : Sheet → Type 0 where
-  isBadClock : goodOf c ≡ false → Comes c main kind rs lent (turnedAway 36)
-  isBadMessage : goodOf c ≡ true → badMessage main kind rs ≡ true → Comes c main kind rs lent (turnedAway 37)
-  isShort : goodOf c ≡ true → badMessage main kind rs ≡ false → lent < mostWords → Comes c main kind rs lent (turnedAway 32)
-  isWritten : goodOf c ≡ true → badMessage main kind rs ≡ false → mostWords ≤ lent
-      → Comes c main kind rs lent (words (frameWords c main kind rs))
-
--- the rule of each refusal, where no earlier one applies
-abbrev pub ClockBad : Clock → Type 0
-ClockBad c = goodOf c ≡ false
-
--- 37, where the clock is good
-pub record MessageBad (c : Clock) (main : List ℕ) (kind : Response) (rs : List ℕ) : Type 0 where
-  pub clock : goodOf c ≡ true
-  pub message : badMessage main kind rs ≡ true
-
--- 32, where the clock is good and the message admitted
-pub record WordsFew (c : Clock) (main : List ℕ) (kind : Response) (rs : List ℕ) (lent : ℕ) : Type 0 where
-  pub clock : goodOf c ≡ true
-  pub message : badMessage main kind rs ≡ false
-  pub few : lent < mostWords
+use Rattle.frame.specs.Writing.{badMessage, frameWords, responseSent, byteWidths, responseWidths}
 
 -- the places from i on carry these symbols
 abbrev pub Carry : List ℕ → ℕ → List Symbol → Type 0

@@ -6,6 +6,8 @@ use mathlib.Core.Bool.{Bool, true, false, cond, not, _||_}
 use mathlib.Core.List.{List, [], _∷_, _++_}
 use lib.Dec.{eqb, ltb}
 use lib.ListN.{length, drop}
+use Rattle.laws.specs.Meant.{set, unset, below}
+use Rattle.laws.specs.Rules.{Rule, rule, firstRule}
 use Rattle.symbol.specs.declared.Clock.{Clock}
 use Rattle.symbol.specs.Clocks.{goodOf}
 use Rattle.symbol.specs.Sending.{bitWidth, endWidth}
@@ -68,13 +70,21 @@ pub data Sheet : Type 0 where
   words : List ℕ → Sheet
   turnedAway : (number : ℕ) → Sheet
 
--- Writing with so many words lent: 36 is judged first, then 37, then 32.
-unfoldable pub writing : Clock → List ℕ → Response → List ℕ → ℕ → Sheet
-writing c main kind rs lent =
-    cond (not (goodOf c)) (turnedAway 36)
-    (cond (badMessage main kind rs) (turnedAway 37)
-    (cond (ltb lent mostWords) (turnedAway 32)
-    (words (frameWords c main kind rs))))
+-- "Where several apply: .. writing 36, 37, 32": the clock, the message, and so many words lent
+abbrev pub writeRules : Clock → List ℕ → Response → List ℕ → (lent : ℕ) → List Rule
+writeRules c main kind rs lent =
+    rule 36 (unset (goodOf c))
+    ∷ rule 37 (set (badMessage main kind rs))
+    ∷ rule 32 (below lent mostWords)
+    ∷ []
+
+-- what a call comes to, by the number of the first rule that holds: the words of the frame where none does
+abbrev pub sheetBy : ℕ → List ℕ → Sheet
+sheetBy number ws = cond (eqb number 0) (words ws) (turnedAway number)
+
+-- Writing with so many words lent.
+unfoldable pub writing : Clock → List ℕ → Response → List ℕ → (lent : ℕ) → Sheet
+writing c main kind rs lent = sheetBy (firstRule (writeRules c main kind rs lent)) (frameWords c main kind rs)
 
 -- An answer of the call as the paper has it: the number of its refusal, 0 where there is none, and the number of words.
 pub record Count : Type 0 where
