@@ -14,7 +14,7 @@ use Rattle.frame.specs.Line.{activeAt, symbolAt, Line, single, endAt, Fo
 use Rattle.frame.specs.Standing.{counted, stands}
 use Rattle.frame.specs.StandingLaws.{stands-sof, stands-next}
 use Rattle.frame.specs.Faults.{mostBytes}
-use Rattle.frame.specs.Reading.{Outcome, good, quiet, unfinished, faulty, refused, closed, faultAt, decides, decidedBy, decided, readOn, reading}
+use Rattle.frame.specs.Reading.{Outcome, good, quiet, unfinished, faulty, closed, faultAt, decides, decidedBy, decided, outcomeBy, readOn, reading}
 use Rattle.frame.specs.FirstLaws.{first-at}
 use Rattle.frame.specs.ReadStated.{IsFirst, shifted, movedOutcome}
 
@@ -118,8 +118,8 @@ module _ (limit : ℕ) (l l' : Line) (o o' : ℕ) (same : (i : ℕ) → l .shows
       follows false q = lt-leb (l' .count) (o' + 1) (omega (arith, leb-false (l .count) (o + 1) q, as-many))
 
       go : (t b : Bool) → leb (l' .count) (o' + 1) ≡ b
-          → cond t (refused 32) (cond (leb (l' .count) (o' + 1)) (quiet p') (decided limit l' o'))
-          ≡ movedOutcome p' o o' (cond t (refused 32) (cond b (quiet p) (decided limit l o)))
+          → outcomeBy (cond t 32 0) (cond (leb (l' .count) (o' + 1)) (quiet p') (decided limit l' o'))
+          ≡ movedOutcome p' o o' (outcomeBy (cond t 32 0) (cond b (quiet p) (decided limit l o)))
       go true b q = refl
       go false true q = rw q
       go false false q = rw q (decided-moved p')

@@ -8,7 +8,7 @@ use lib.Dec.{leb, ltb}
 use borrow.Author.Tests.{ltb-true, ltb-false, leb-false, le-ltb, lt-leb}
 use Rattle.laws.specs.Tests.{never}
 use Rattle.frame.specs.Line.{Line, endAt, Found, nowhere, at, opening}
-use Rattle.frame.specs.Reading.{Outcome, quiet, refused, decided, readBy, readOn}
+use Rattle.frame.specs.Reading.{Outcome, quiet, decided, readBy, outcomeBy, readOn}
 use Rattle.frame.specs.FirstLaws.{first-at, at-first}
 use Rattle.frame.specs.ReadStated.{IsFirst, Opens, Comes, isPast, isShort, isQuiet, isOpened, goesOn}
 
@@ -34,7 +34,7 @@ module _ (limit : ℕ) (l : Line) (p lent : ℕ) where
       inner (at o) a c e = followed o a c e (leb (l .count) (o + 1)) refl
 
       outer : (b c : Bool) → ltb (l .count) p ≡ b → ltb lent limit ≡ c
-          → Comes limit l p lent (cond b (refused 31) (cond c (refused 32) (readBy (opening l p) limit l p)))
+          → Comes limit l p lent (outcomeBy (cond b 31 (cond c 32 0)) (readBy (opening l p) limit l p))
       outer true c e d = isPast (ltb-true (l .count) p e)
       outer false true e d = isShort (ltb-false (l .count) p e) (ltb-true lent limit d)
       outer false false e d = inner (opening l p) (ltb-false (l .count) p e) (ltb-false lent limit d) refl

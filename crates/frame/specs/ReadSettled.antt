@@ -1,30 +1,30 @@
 -- Laws.
 -- Reading is settled: the promise of the call leaves one answer and one state of the lent bytes, and its two refusals come
 -- exactly when document 01 says so.
-use Prim.Native.Nat.{ℕ, _≤_, _<_}
+use Prim.Native.Nat.{ℕ, _+_, _≤_, _<_}
 use mathlib.Core.Path.{_≡_, refl, sym, ap, _∙_}
-use mathlib.Core.Bool.{cond}
+use mathlib.Core.Bool.{Bool, true, false, cond}
 use mathlib.Core.List.{List, []}
 use mathlib.Core.Logic.{_↔_}
 use native.Mathlib.Omega.{arith}
-use lib.Dec.{eqb}
+use lib.Dec.{eqb, leb}
 use lib.ListN.{length}
+use borrow.Author.Tests.{eqb-true}
 use Rattle.laws.specs.Settled.{settled}
-use Rattle.laws.specs.Rules.{TurnedAway}
+use Rattle.laws.specs.Rules.{firstRule, FirstToHold, TurnedAway}
+use Rattle.laws.specs.RuleLaws.{first-is}
 use Rattle.frame.specs.declared.Fault.{Fault}
 use Rattle.frame.specs.declared.Fault.the-variants.{Noise, NoSof, Break, Stuck, LateSof, SplitByte, FewBytes, WrongCheck, EodAfterResponse, ThirteenthByte}
 use Rattle.frame.specs.declared.Reading.{Reading}
 use Rattle.frame.specs.declared.Reading.the-variants.{Frame, Quiet, Unfinished, Faulty, PastRecording, FewLentBytes}
-use Rattle.frame.specs.Line.{symbolAt, single}
+use Rattle.frame.specs.Line.{symbolAt, single, Found, nowhere, at, opening}
 use Rattle.frame.specs.Standing.{stands}
 use Rattle.frame.specs.Faults.{mostBytes}
-use Rattle.frame.specs.Reading.{Outcome, good, quiet, unfinished, faulty, refused, decided, reading}
+use Rattle.frame.specs.Reading.{Outcome, good, quiet, unfinished, faulty, refused, decided, readBy, readRules, outcomeBy, readOn, reading}
 use Rattle.frame.specs.Answers.{Told, told, tells, written, ReadPromise}
 use Rattle.frame.specs.ShownLaws.{wrong-small}
 use Rattle.frame.specs.FaultRuleLaws.{fault-number}
 use Rattle.frame.specs.Decided.{Decision, isUnfinished, isGood, isFaulty, decision}
-use Rattle.frame.specs.Outcomes.{comes}
-use Rattle.frame.specs.ReadStated.{Comes, isPast, isShort, isQuiet, isOpened}
 
 -- ## One answer
 
@@ -83,19 +83,24 @@ decided-number ws o x (isUnfinished u) = omega arith
 decided-number ws o x (isGood e f h) = omega arith
 decided-number ws o x (isFaulty {k} e h) = fault-number mostBytes (stands (single ws) o k) (single ws .shows k) (wrong-small (symbolAt ws k))
 
--- each refusal's number and its rule
-record Numbered (ws : List ℕ) (p lent : ℕ) (x : Outcome) : Type 0 where
-  past : (tells x .number ≡ 31) ↔ (length ws < p)
-  short : (tells x .number ≡ 32) ↔ ((p ≤ length ws) × (lent < mostBytes))
+-- What is read has a number up to 20, which no rule has.
+read-number : (ws : List ℕ) (p : ℕ) (f : Found) → tells (readBy f mostBytes (single ws) p) .number ≤ 20
+read-number ws p nowhere = omega arith
+read-number ws p (at o) = go (leb (single ws .count) (o + 1))
+  where
+    go : (b : Bool) → tells (cond b (quiet p) (decided mostBytes (single ws) o)) .number ≤ 20
+    go true = omega arith
+    go false = decided-number ws o (decided mostBytes (single ws) o) (decision mostBytes (single ws) o)
 
-numbered : (ws : List ℕ) (p lent : ℕ) (x : Outcome) → Comes mostBytes (single ws) p lent x → Numbered ws p lent x
-numbered ws p lent x (isPast h) = record { past = (λ e. h, λ r. refl); short = (λ e. absurd (omega arith), λ r. absurd (omega arith)) }
-numbered ws p lent x (isShort h l) = record { past = (λ e. absurd (omega arith), λ r. absurd (omega arith)); short = (λ e. (h, l), λ r. refl) }
-numbered ws p lent x (isQuiet h l) =
-    record { past = (λ e. absurd (omega arith), λ r. absurd (omega arith)); short = (λ e. absurd (omega arith), λ r. absurd (omega arith)) }
-numbered ws p lent x (isOpened {o} h l op) =
-    let n : tells (decided mostBytes (single ws) o) .number ≤ 20 = decided-number ws o (decided mostBytes (single ws) o) (decision mostBytes (single ws) o) in
-    record { past = (λ e. absurd (omega arith), λ r. absurd (omega arith)); short = (λ e. absurd (omega arith), λ r. absurd (omega arith)) }
+-- A number above those is told exactly when it is that of the first rule that holds.
+by-number : (k n : ℕ) (x : Outcome) → tells x .number ≤ 20 → 20 < n → (tells (outcomeBy k x) .number ≡ n) ↔ (k ≡ n)
+by-number k n x s h = go (eqb k 0) refl
+  where
+    go : (t : Bool) → eqb k 0 ≡ t → (tells (cond t x (refused k)) .number ≡ n) ↔ (k ≡ n)
+    go true e =
+        let none : k ≡ 0 = eqb-true k 0 e in
+        (λ q. absurd (omega (arith, s, h, q)), λ q. absurd (omega (arith, none, h, q)))
+    go false e = (λ q. q, λ q. q)
 
 unwritten : (x : Outcome) → 0 < tells x .number → written x ≡ []
 unwritten (good f) h = absurd (omega arith)
@@ -108,20 +113,24 @@ module _ {ws : List ℕ} {p : ℕ} {entry exit : List ℕ} {r : Reading} (q : Re
   its-number : told r .number ≡ tells (reading ws p (length entry)) .number
   its-number = ap (λ (t : Told). t .number) (q .tells-it)
 
-  rules : Numbered ws p (length entry) (reading ws p (length entry))
-  rules = numbered ws p (length entry) (reading ws p (length entry)) (comes mostBytes (single ws) p (length entry))
-
   -- "On any other answer nothing is written."
   pub nothing-written : 0 < told r .number → exit ≡ entry
   nothing-written h = q .lends-it ∙ rw (unwritten (reading ws p (length entry)) (rw (← its-number) h))
 
-  refusal : (n : ℕ) (rule : Type 0) → 0 < n → (tells (reading ws p (length entry)) .number ≡ n) ↔ rule → TurnedAway (told r .number) n rule (exit ≡ entry)
-  refusal n rule h e = record { exactly = rw its-number e; unchanged = λ y. nothing-written (rw (its-number ∙ e .1 y) h) }
+  by-rules : (n : ℕ) → 20 < n → (tells (reading ws p (length entry)) .number ≡ n) ↔ (firstRule (readRules mostBytes (single ws) p (length entry)) ≡ n)
+  unfolding readOn
+  by-rules n h =
+      by-number (firstRule (readRules mostBytes (single ws) p (length entry))) n (readBy (opening (single ws) p) mostBytes (single ws) p)
+      (read-number ws p (opening (single ws) p)) h
 
-  -- 31: "position past the recording's length".
-  pub read-31 : TurnedAway (told r .number) 31 (length ws < p) (exit ≡ entry)
-  read-31 = refusal 31 (length ws < p) (omega arith) (rules .past)
-
-  -- 32: "lent bytes under 12", where 31 does not apply.
-  pub read-32 : TurnedAway (told r .number) 32 ((p ≤ length ws) × (length entry < mostBytes)) (exit ≡ entry)
-  read-32 = refusal 32 ((p ≤ length ws) × (length entry < mostBytes)) (omega arith) (rules .short)
+  -- 31 and 32, each exactly when its rule is the first of reading's rules to hold, and then no byte is changed. The numbers up
+  -- to 20 are of what is read.
+  pub read-exactly : (n : ℕ) → 20 < n
+      → TurnedAway (told r .number) n (FirstToHold n (readRules mostBytes (single ws) p (length entry))) (exit ≡ entry)
+  read-exactly n h =
+      let law = first-is n (readRules mostBytes (single ws) p (length entry)) (omega (arith, h)) refl in
+      let number = by-rules n h in
+      record {
+        exactly = (λ e. law .0 (number .0 (sym its-number ∙ e)), λ f. its-number ∙ number .1 (law .1 f));
+        unchanged = λ f. nothing-written (rw (its-number ∙ number .1 (law .1 f)) (omega (arith, h)));
+      }

@@ -2,8 +2,10 @@
 -- What reading answers, in document 01's words. Nothing here goes through a recording but the search for a first place.
 use Prim.Native.Nat.{ℕ, _+_}
 use mathlib.Core.Bool.{Bool, cond, not, _||_}
-use mathlib.Core.List.{List}
-use lib.Dec.{eqb, leb, ltb}
+use mathlib.Core.List.{List, [], _∷_}
+use lib.Dec.{eqb, leb}
+use Rattle.laws.specs.Meant.{below}
+use Rattle.laws.specs.Rules.{Rule, rule, firstRule}
 use Rattle.frame.specs.declared.Response.{Response}
 use Rattle.frame.specs.Line.{Line, single, endAt, Found, nowhere, at, firstIn, opening}
 use Rattle.frame.specs.Standing.{Standing, counted, stands}
@@ -56,12 +58,17 @@ abbrev pub readBy : Found → (limit : ℕ) → Line → ℕ → Outcome
 readBy nowhere limit l p = quiet p
 readBy (at o) limit l p = cond (leb (l .count) (o + 1)) (quiet p) (decided limit l o)
 
--- Reading a line from position p, where a frame has at most `limit` bytes, with so many bytes lent: 31 is judged first, then 32.
+-- "Where several apply: reading 31, 32": the position p, and so many bytes lent
+abbrev pub readRules : (limit : ℕ) → Line → (p lent : ℕ) → List Rule
+readRules limit l p lent = rule 31 (below (l .count) p) ∷ rule 32 (below lent limit) ∷ []
+
+-- what a call comes to, by the number of the first rule that holds: what is read where none does
+abbrev pub outcomeBy : ℕ → Outcome → Outcome
+outcomeBy number read = cond (eqb number 0) read (refused number)
+
+-- Reading a line from position p, where a frame has at most `limit` bytes, with so many bytes lent.
 unfoldable pub readOn : (limit : ℕ) → Line → (p lent : ℕ) → Outcome
-readOn limit l p lent =
-    cond (ltb (l .count) p) (refused 31)
-    (cond (ltb lent limit) (refused 32)
-    (readBy (opening l p) limit l p))
+readOn limit l p lent = outcomeBy (firstRule (readRules limit l p lent)) (readBy (opening l p) limit l p)
 
 -- Reading the intervals ws of document 01.
 abbrev pub reading : List ℕ → (p lent : ℕ) → Outcome
