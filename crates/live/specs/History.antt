@@ -1,14 +1,15 @@
 -- Laws.
 -- Any history of calls on a started reader: intervals with as many or as few bytes lent as the caller likes, and questions
 -- between them. Refused intervals and questions leave no trace, and what is left is reading.
-use Prim.Native.Nat.{ℕ, _+_, _≤_}
+use Prim.Native.Nat.{ℕ, _+_, _≤_, _<_}
 use mathlib.Core.Path.{_≡_, refl, sym, ap, _∙_}
-use mathlib.Core.Bool.{Bool, true, false, cond, not}
+use mathlib.Core.Bool.{Bool, true, false, cond}
 use mathlib.Core.List.{List, [], _∷_, _++_, map}
 use native.Mathlib.Omega.{arith}
-use lib.Dec.{eqb, ltb}
 use lib.ListN.{length, length-append}
-use borrow.Author.Tests.{eqb-true, ltb-false}
+use borrow.Author.Tests.{eqb-true}
+use Rattle.laws.specs.Rules.{firstRule}
+use Rattle.laws.specs.RuleLaws.{none-is}
 use Rattle.frame.specs.Line.{single}
 use Rattle.frame.specs.Faults.{mostBytes}
 use Rattle.frame.specs.Reading.{Outcome}
@@ -18,19 +19,18 @@ use Rattle.live.specs.Feeding.{started, fedOf}
 use Rattle.live.specs.Held.{lastPlace}
 use Rattle.live.specs.Hearing.{Counts, room, all-heard, Hears, Takes, decides-nothing, decides-one}
 use Rattle.live.specs.Heard.{starts, takes-it}
-use Rattle.live.specs.Refused.{refused-as, refused-leaves, refused-51}
-use Rattle.live.specs.Answers.{refusal}
+use Rattle.live.specs.Refused.{refused-as, refused-leaves, hear-exactly}
+use Rattle.live.specs.Answers.{refusal, hearRules, saysFull}
 use Rattle.live.specs.Shown.{Comes, recording, Enough, none, also, afterOne, afterAll, showsAll, reads, showsAsked, Call, hearing, asking, afterCalls, isTaken, takenIn}
 use Rattle.live.specs.Whole.{live-whole}
 
 -- An interval that is not refused had bytes enough.
 taken-enough : (v : Live) (i : Comes) → isTaken v i ≡ true → mostBytes ≤ length (i .lent)
-taken-enough v i e = go (eqb (v .places .full) 0) (ltb (length (i .lent)) mostBytes) refl (sym (refused-as v (i .width) (length (i .lent))) ∙ eqb-true (refusal (fedOf v (i .width) (length (i .lent)) .heard)) 0 e)
-  where
-    go : (a b : Bool) → ltb (length (i .lent)) mostBytes ≡ b → _≡_ {A = ℕ} (cond (not a) 51 (cond b 32 0)) 0 → mostBytes ≤ length (i .lent)
-    go false b q g = absurd (omega (arith, g))
-    go true true q g = absurd (omega (arith, g))
-    go true false q g = ltb-false (length (i .lent)) mostBytes q
+taken-enough v i e =
+    let rules = hearRules (saysFull v) (length (i .lent)) in
+    let first : firstRule rules ≡ 0 = sym (refused-as v (i .width) (length (i .lent))) ∙ eqb-true (refusal (fedOf v (i .width) (length (i .lent)) .heard)) 0 e in
+    let few : ¬ (length (i .lent) < mostBytes) = none-is rules refl .0 first .1 .0 in
+    omega (arith, few)
 
 all-enough : (cs : List Call) (v : Live) → Enough (takenIn v cs)
 all-enough [] v = none
@@ -66,7 +66,7 @@ few-taken (hearing i ∷ cs) done xs v h =
     has-place : isTaken v i ≡ true → Counts (length done) (v .places) → length done ≤ lastPlace
     has-place e (room f n k) = k
     has-place e (all-heard f n) =
-        let z : _≡_ {A = ℕ} 51 0 = sym (refused-51 (single done) xs v h (i .width) (length (i .lent)) .1 n) ∙ eqb-true (refusal (fedOf v (i .width) (length (i .lent)) .heard)) 0 e in
+        let z : _≡_ {A = ℕ} 51 0 = sym (hear-exactly (single done) xs v h (i .width) (i .lent) 51 (omega arith) .exactly .1 (omega (arith, n))) ∙ eqb-true (refusal (fedOf v (i .width) (length (i .lent)) .heard)) 0 e in
         absurd (omega (arith, z))
 
     one-more : {exit : List ℕ} → Takes (single done) (single (done ++ (i .width ∷ []))) xs (i .lent) exit (fedOf v (i .width) (length (i .lent)))

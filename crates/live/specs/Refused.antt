@@ -1,16 +1,17 @@
 -- Laws.
 -- When an interval is refused: 51 where there is no place for it, then 32 where under twelve bytes are lent; and that a
 -- refusal changes nothing.
-use Prim.Native.Nat.{ℕ, _+_, _≤_, _<_}
-use mathlib.Core.Path.{_≡_, refl}
+use Prim.Native.Nat.{ℕ, _<_}
+use mathlib.Core.Path.{_≡_, refl, _∙_}
 use mathlib.Core.Bool.{Bool, true, false, cond, not}
 use mathlib.Core.List.{List, [], _∷_}
-use mathlib.Core.Logic.{_↔_}
 use native.Mathlib.Omega.{arith}
 use lib.Dec.{eqb, ltb}
 use lib.ListN.{length}
-use borrow.Author.Tests.{ltb-true, lt-ltb, eq-eqb}
+use borrow.Author.Tests.{lt-ltb, le-ltb, ne-eqb}
 use Rattle.laws.specs.Tests.{never}
+use Rattle.laws.specs.Rules.{firstRule, FirstToHold, TurnedAway}
+use Rattle.laws.specs.RuleLaws.{first-same, refuses}
 use Rattle.frame.specs.Line.{Line}
 use Rattle.frame.specs.Faults.{mostBytes}
 use Rattle.frame.specs.Reading.{Outcome}
@@ -23,7 +24,7 @@ use Rattle.live.specs.declared.Heard.{Heard}
 use Rattle.live.specs.declared.Heard.the-variants.{Nothing, Frame, Faulty, PastPlaces, FewLentBytes}
 use Rattle.live.specs.Feeding.{waiting, refusedBy, fedBy, stepAt, endsAt, takenOf, fedOf, laidBy, lentOf}
 use Rattle.live.specs.Held.{lastPlace, noFrame}
-use Rattle.live.specs.Answers.{toldBy, refusal}
+use Rattle.live.specs.Answers.{toldBy, refusal, hearRules, pastLast, saysFull}
 use Rattle.live.specs.Hearing.{Counts, room, all-heard, Hears}
 
 -- A refusal is told by its number, and by nothing else.
@@ -55,8 +56,8 @@ taken-none v w = go (eqb (v .inside .phase) noFrame)
     go true = refl
     go false = by-taken (stepAt v w .event) v (stepAt v w .machine) (endsAt v w)
 
--- Whatever a reader holds: 51 is judged first, then 32.
-pub refused-as : (v : Live) (w lent : ℕ) → refusal (fedOf v w lent .heard) ≡ cond (not (eqb (v .places .full) 0)) 51 (cond (ltb lent mostBytes) 32 0)
+-- Whatever a reader holds, an interval is refused with the number of the first rule that holds.
+pub refused-as : (v : Live) (w lent : ℕ) → refusal (fedOf v w lent .heard) ≡ firstRule (hearRules (saysFull v) lent)
 unfolding fedOf
 refused-as v w lent = go (eqb (v .places .full) 0) (ltb lent mostBytes)
   where
@@ -80,41 +81,21 @@ refused-leaves v w lent h = go (eqb (v .places .full) 0) (ltb (length lent) most
     go true true g = (refl, refl)
     go true false g = never (rw (taken-none v w)) g
 
--- For a reader that was started and has heard intervals: 51 exactly where the last place has been heard ..
-module _ (l : Line) (xs : List Outcome) (v : Live) (h : Hears l xs v) (w lent : ℕ) where
-  with-room : l .count ≤ lastPlace → eqb (v .places .full) 0 ≡ true
-  with-room small = go (h .counts)
-    where
-      go : Counts (l .count) (v .places) → eqb (v .places .full) 0 ≡ true
-      go (room f n k) = eq-eqb (v .places .full) 0 f
-      go (all-heard f n) = absurd (omega (arith, n, small))
+-- For a reader that was started and has heard intervals: it says that there is no place more where the last has been heard.
+module _ (l : Line) (xs : List Outcome) (v : Live) (h : Hears l xs v) (w : ℕ) (lent : List ℕ) where
+  full-past : Counts (l .count) (v .places) → saysFull v .says ≡ pastLast (l .count) .says
+  full-past (room f n k) = rw (f, le-ltb lastPlace (l .count) k)
+  full-past (all-heard f n) = rw (f, lt-ltb lastPlace (l .count) (omega (arith, n)))
 
-  -- the interval is past the last place
-  pub refused-51 : (refusal (fedOf v w lent .heard) ≡ 51) ↔ (l .count ≡ lastPlace + 1)
-  refused-51 = (λ e. to (h .counts) e, λ e. from (h .counts) e)
-    where
-      small : (b : Bool) → _≡_ {A = ℕ} (cond b 32 0) 51 → l .count ≡ lastPlace + 1
-      small true e = absurd (omega arith)
-      small false e = absurd (omega arith)
+  by-rules : refusal (fedOf v w (length lent) .heard) ≡ firstRule (hearRules (pastLast (l .count)) (length lent))
+  by-rules =
+      refused-as v w (length lent)
+      ∙ first-same (hearRules (saysFull v) (length lent)) (hearRules (pastLast (l .count)) (length lent)) (refl, full-past (h .counts), λ e. (refl, refl, λ f. tt))
 
-      to : Counts (l .count) (v .places) → refusal (fedOf v w lent .heard) ≡ 51 → l .count ≡ lastPlace + 1
-      to (room f n k) e = small (ltb lent mostBytes) (rw (refused-as v w lent, eq-eqb (v .places .full) 0 f) at e)
-      to (all-heard f n) e = n
-
-      from : Counts (l .count) (v .places) → l .count ≡ lastPlace + 1 → refusal (fedOf v w lent .heard) ≡ 51
-      from (room f n k) e = absurd (omega (arith, e, k))
-      from (all-heard f n) e = rw (refused-as v w lent, f)
-
-  -- .. and 32 exactly where there is a place and under twelve bytes are lent.
-  pub refused-32 : (refusal (fedOf v w lent .heard) ≡ 32) ↔ ((l .count ≤ lastPlace) × (lent < mostBytes))
-  refused-32 = (λ e. to (h .counts) e, λ p. rw (refused-as v w lent, with-room (p .0), lt-ltb lent mostBytes (p .1)))
-    where
-      few : (b : Bool) → ltb lent mostBytes ≡ b → _≡_ {A = ℕ} (cond b 32 0) 32 → lent < mostBytes
-      few true q e = ltb-true lent mostBytes q
-      few false q e = absurd (omega arith)
-
-      to : Counts (l .count) (v .places) → refusal (fedOf v w lent .heard) ≡ 32 → (l .count ≤ lastPlace) × (lent < mostBytes)
-      to (room f n k) e = (k, few (ltb lent mostBytes) refl (rw (refused-as v w lent, eq-eqb (v .places .full) 0 f) at e))
-      to (all-heard f n) e =
-          let z : _≡_ {A = ℕ} 51 32 = rw (refused-as v w lent, f) at e in
-          absurd (omega (arith, z))
+  -- 51 and 32, each exactly when its rule is the first to hold, and then the reader and the lent bytes are as they were.
+  pub hear-exactly : (n : ℕ) → 0 < n
+      → TurnedAway (refusal (fedOf v w (length lent) .heard)) n (FirstToHold n (hearRules (pastLast (l .count)) (length lent)))
+      ((fedOf v w (length lent) .live ≡ v) × (lentOf v w lent ≡ lent))
+  hear-exactly n some =
+      refuses n (hearRules (pastLast (l .count)) (length lent)) some refl by-rules
+      (λ e. refused-leaves v w lent (rw e (ne-eqb n 0 (λ z. omega (arith, z, some)))))
