@@ -13,13 +13,13 @@ use Rattle.bench.specs.Stations.{Bits}
 use Rattle.bench.specs.Order.{ahead}
 use Rattle.bench.specs.Round.{longest, mostBits, play}
 use Rattle.bench.specs.Contest.{Entry, absent, enters, sofsAsked, seatOf, sumOf, contestOf}
-use Rattle.bench.specs.RoundStated.{first, firstOf, bitsIn, Carried, none, next, FairAll, KeepAll, goesOut, Comes}
+use Rattle.bench.specs.RoundStated.{first, firstOf, bitsIn, Carried, none, next, FairAll, EntriesInWindows, goesOut, RoundCase}
 use Rattle.bench.specs.RoundLaws.{plays-out}
 
 -- ## Entries
 
 -- entries that keep the rules ask for nothing outside the windows
-pub all-fair : (entries : List Entry) → KeepAll entries → FairAll false (map seatOf entries)
+pub all-fair : (entries : List Entry) → EntriesInWindows entries → FairAll false (map seatOf entries)
 all-fair [] h = tt
 all-fair (absent ∷ entries) h = (tt, all-fair entries (h .1))
 all-fair (enters sof pulses ∷ entries) h = (h .0 .1, all-fair entries (h .1))
@@ -33,14 +33,14 @@ shorter x y n h k = go (ahead x y)
     go false = k
 
 -- No more than 96 bits go out.
-pub goes-short : (entries : List Entry) → KeepAll entries → length (goesOut entries) ≤ mostBits
+pub goes-short : (entries : List Entry) → EntriesInWindows entries → length (goesOut entries) ≤ mostBits
 unfolding first
 goes-short [] h = omega arith
 goes-short (absent ∷ entries) h = shorter [] (goesOut entries) mostBits (omega arith) (goes-short entries (h .1))
 goes-short (enters sof pulses ∷ entries) h = shorter (bitsIn pulses) (goesOut entries) mostBits (h .0 .2) (goes-short entries (h .1))
 
 -- the longest of the SOFs lies in its window, as soon as somebody has a bit to send
-sof-in : (entries : List Entry) → KeepAll entries → (longest (sofsAsked entries) ≤ 218) × (goesOut entries ≢ [] → 182 ≤ longest (sofsAsked entries))
+sof-in : (entries : List Entry) → EntriesInWindows entries → (longest (sofsAsked entries) ≤ 218) × (goesOut entries ≢ [] → 182 ≤ longest (sofsAsked entries))
 unfolding sofsAsked longest first firstOf ahead
 sof-in [] h = (omega arith, λ n. absurd (n refl))
 sof-in (absent ∷ entries) h = sof-in entries (h .1)
@@ -72,7 +72,7 @@ sum-append (w ∷ a) b = let k = sum-append a b in omega arith
 -- ## The round
 
 -- Every round of entries that keep the rules comes to this.
-pub comes : (entries : List Entry) → KeepAll entries → Comes entries (contestOf entries)
+pub comes : (entries : List Entry) → EntriesInWindows entries → RoundCase entries (contestOf entries)
 unfolding contestOf sumOf
 comes entries h =
     let p = plays-out mostBits 1 false (map seatOf entries) (all-fair entries h) (goes-short entries h) in

@@ -16,7 +16,7 @@ use Rattle.bench.specs.Stations.{blank}
 use Rattle.bench.specs.Contest.{roundOf, verdictOf, afterFare, afterFares}
 use Rattle.bench.specs.Calls.{round, numberOf, taken, done, after}
 use Rattle.bench.specs.Promises.{toldNumber, RoundSaid, said, played, roundSays, RoundPromise}
-use Rattle.bench.specs.RoundStated.{stationAt, fareAt, toldFare, Shown}
+use Rattle.bench.specs.RoundStated.{stationAt, fareAt, toldFare, RoundShown}
 use Rattle.bench.specs.Winner.{wins, loses, verdict-at, verdicts-32}
 use Rattle.bench.specs.LineTime.{on-the-line, words-first}
 use Rattle.bench.specs.RowShows.{same-length}
@@ -37,7 +37,7 @@ fares-at (f ∷ fs) (s ∷ row) (suc i) = fares-at fs row i
 
 -- THE ROUND, AS IT IS SEEN.
 pub round-shows : {entry exit : List Station} {lent lentExit : List ℕ} {a : RoundAnswer} → RoundPromise entry exit lent lentExit a
-    → toldNumber (a .told) ≡ 0 → Shown entry exit lentExit a
+    → toldNumber (a .told) ≡ 0 → RoundShown entry exit lentExit a
 unfolding roundSays after done
 round-shows {entry} {exit} {lent} {lentExit} {a} p z =
     let l = on-the-line lent entry t in

@@ -101,21 +101,21 @@ pub record Runs (k : ℕ) (active : Bool) (seats : List Seat) (c : Course) : Typ
   pub finished : asked (c .seats) ≡ []
 
 -- an entry keeps the rules where its SOF and its pulses lie in the sending windows, and it has at most 96 bits
-abbrev pub Keeps : Entry → Type 0
-Keeps absent = Unit {0}
-Keeps (enters sof pulses) = Start sof × Fair false pulses × (length (bitsIn pulses) ≤ mostBits)
+abbrev pub EntryInWindows : Entry → Type 0
+EntryInWindows absent = Unit {0}
+EntryInWindows (enters sof pulses) = Start sof × Fair false pulses × (length (bitsIn pulses) ≤ mostBits)
 
 -- each of the entries keeps them
-abbrev pub KeepAll : List Entry → Type 0
-KeepAll [] = Unit {0}
-KeepAll (e ∷ entries) = Keeps e × KeepAll entries
+abbrev pub EntriesInWindows : List Entry → Type 0
+EntriesInWindows [] = Unit {0}
+EntriesInWindows (e ∷ entries) = EntryInWindows e × EntriesInWindows entries
 
 -- the bits that go out: the first of the entries' bits
 abbrev pub goesOut : List Entry → Bits
 goesOut entries = firstAt (map seatOf entries)
 
 -- What a round comes to in which the bits w go out.
-pub record Comes (entries : List Entry) (r : Round) : Type 0 where
+pub record RoundCase (entries : List Entry) (r : Round) : Type 0 where
   pub sof : ℕ
   pub widths : List ℕ
   -- opening, SOF, a width for each bit, closing
@@ -203,7 +203,7 @@ abbrev pub toldFare : RoundAnswer → ℕ → Fared
 toldFare a i = getD (a .verdicts) i (verdictOf Idle) .fared
 
 -- What the answer, the row and the words of a played round show.
-pub record Shown (entry exit : List Station) (lentExit : List ℕ) (a : RoundAnswer) : Type 0 where
+pub record RoundShown (entry exit : List Station) (lentExit : List ℕ) (a : RoundAnswer) : Type 0 where
   -- the first of the messages that wait wins
   pub wins : Wins entry (winnerOf entry)
   -- 32 verdicts: exactly the winner's holders are through, exactly the empty places are idle, every other one has lost at the

@@ -26,7 +26,7 @@ use Rattle.bench.specs.Round.{mostBits, asked, play}
 use Rattle.bench.specs.Contest.{absent, pulsesOf, holder, entryOf, seatOf, roundOf}
 use Rattle.bench.specs.Calls.{allSound}
 use Rattle.bench.specs.Histories.{waiting}
-use Rattle.bench.specs.RoundStated.{first, bitsIn, bitsAt, Fair, against, fareOf, Keeps, KeepAll, goesOut, Comes, winnerOf}
+use Rattle.bench.specs.RoundStated.{first, bitsIn, bitsAt, Fair, against, fareOf, EntryInWindows, EntriesInWindows, goesOut, RoundCase, winnerOf}
 use Rattle.bench.specs.RoundLaws.{plays-out}
 use Rattle.bench.specs.ContestLaws.{all-fair, goes-short, comes}
 
@@ -64,7 +64,7 @@ pulses-bits c active (b ∷ bits) = ap (λ (r : Bits). b ∷ r) (pulses-bits c (
 
 -- ## Sound rows
 
-keeps-one : (s : Station) → sound s ≡ true → Keeps (entryOf s)
+keeps-one : (s : Station) → sound s ≡ true → EntryInWindows (entryOf s)
 keeps-one s h = go (empty s)
   where
     two : (leb (s .len) mostStored ≡ true) × (goodOf (s .clock) ≡ true)
@@ -73,14 +73,14 @@ keeps-one s h = go (empty s)
     few : length (stored s) ≤ mostStored
     few = omega (arith, length-take (s .len) (s .bytes), leb-true (s .len) mostStored (two .0))
 
-    go : (t : Bool) → Keeps (cond t absent (holder (s .clock) (stored s)))
+    go : (t : Bool) → EntryInWindows (cond t absent (holder (s .clock) (stored s)))
     go true = tt
     go false =
         let g = good (s .clock) (two .1) in
         (g .sof, pulses-fair (s .clock) g false (bitsSent (stored s)), rw (pulses-bits (s .clock) false (bitsSent (stored s))) (sent-short (stored s) few))
 
 -- The entries of sound stations keep the rules of a round.
-pub keeps : (row : List Station) → allSound row ≡ true → KeepAll (map entryOf row)
+pub keeps : (row : List Station) → allSound row ≡ true → EntriesInWindows (map entryOf row)
 unfolding allSound
 keeps [] h = tt
 keeps (s ∷ row) h = let b = both (sound s) (allSound row) h in (keeps-one s (b .0), keeps row (b .1))
@@ -118,7 +118,7 @@ fares-all w (s ∷ row) = ap₂ (λ (f : Fared) (fs : List Fared). f ∷ fs) (fa
 
 module _ (row : List Station) (h : allSound row ≡ true) where
   -- What comes of a round on sound stations.
-  pub row-comes : Comes (map entryOf row) (roundOf row)
+  pub row-comes : RoundCase (map entryOf row) (roundOf row)
   unfolding roundOf
   row-comes = comes (map entryOf row) (keeps row h)
 

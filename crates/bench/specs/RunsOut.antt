@@ -18,7 +18,7 @@ use Rattle.bench.specs.Stations.{Bits, empty}
 use Rattle.bench.specs.Order.{sameBits}
 use Rattle.bench.specs.Calls.{Call, load, round, allEmpty, taken, after}
 use Rattle.bench.specs.Promises.{toldNumber, LoadPromise}
-use Rattle.bench.specs.Histories.{waiting, aheadIn, Event, loads, withdraws, setsClock, plays, Happens, nothing, then, roundsSeen, NoTrafficSeen}
+use Rattle.bench.specs.Histories.{waiting, aheadIn, CallMade, loads, withdraws, setsClock, plays, Happens, nothing, then, roundsSeen, NoTrafficSeen}
 use Rattle.bench.specs.HistoryLaws.{accepted-taken}
 use Rattle.bench.specs.RowLaws.{sent-some}
 use Rattle.bench.specs.RoundStated.{winnerOf, stationAt, RowPassed}
@@ -27,7 +27,7 @@ use Rattle.bench.specs.Taken.{taken-when, load-taken}
 use Rattle.bench.specs.RowShows.{same-length, stays-sound}
 use Rattle.bench.specs.Counting.{without-at}
 use Rattle.bench.specs.CallLaws.{round-waiting, away-same}
-use Rattle.bench.specs.WaitingEnds.{Outcome, goesOut, isWithdrawn, stillWaits, outcome, loading-taken, kept, quiet-kept, quiet-loads, quiet-before}
+use Rattle.bench.specs.WaitingEnds.{Becomes, goesOut, isWithdrawn, stillWaits, outcome, loading-taken, kept, quiet-kept, quiet-loads, quiet-before}
 use Rattle.bench.specs.WaitStated.{GoesOutInTime, OnlyRounds}
 
 -- ## A round that has something to do is taken
@@ -70,7 +70,7 @@ waited lent row s n e = go (taken (round lent) row) refl
     go true t = n (rw (round-waiting lent row t) (without-at s (winnerOf row) (waiting row) ∙ rw e (either (sameBits [] (winnerOf row)))))
     go false t = n (rw (away-same (round lent) row t) e)
 
-only-quiet : (events : List Event) → OnlyRounds events → NoTrafficSeen events
+only-quiet : (events : List CallMade) → OnlyRounds events → NoTrafficSeen events
 only-quiet [] o = tt
 only-quiet (loads i m a ∷ events) o = absurd (o .0)
 only-quiet (withdraws i a ∷ events) o = absurd (o .0)
@@ -78,7 +78,7 @@ only-quiet (setsClock i c a ∷ events) o = absurd (o .0)
 only-quiet (plays lent lentExit a ∷ events) o = (refl, only-quiet events (o .1))
 
 -- what waits after them has waited before
-waited-all : {row exit : List Station} {events : List Event} (s : ℕ) → Happens row events exit → OnlyRounds events → getD (waiting exit) s [] ≢ []
+waited-all : {row exit : List Station} {events : List CallMade} (s : ℕ) → Happens row events exit → OnlyRounds events → getD (waiting exit) s [] ≢ []
     → getD (waiting row) s [] ≢ []
 waited-all s nothing o n = n
 waited-all s (then {e = loads i m a} k h) o n = absurd (o .0)
@@ -88,7 +88,7 @@ waited-all s (then {entry} {e = plays lent lentExit a} k h) o n =
     waited lent entry s (subst (λ (r : List Station). getD (waiting r) s [] ≢ []) (k .leaves-it) (waited-all s h (o .1) n))
 
 -- while a message waits, each of them is played
-all-played : {row exit : List Station} {events : List Event} (s : ℕ) → Happens row events exit → OnlyRounds events → RowPassed row
+all-played : {row exit : List Station} {events : List CallMade} (s : ℕ) → Happens row events exit → OnlyRounds events → RowPassed row
     → getD (waiting exit) s [] ≢ [] → roundsSeen events ≡ length events
 unfolding roundsSeen
 all-played s nothing o p n = refl
@@ -104,7 +104,7 @@ all-played s (then {entry} {middle} {e = plays lent lentExit a} {events} k h) o 
 -- RUN ROUNDS AND IT GOES OUT. A message is loaded; then A + 1 rounds are called for, each with 101 words lent, and nothing else.
 -- It goes out, whole and readable, in exactly round A + 1.
 pub runs-out : (s : ℕ) (x : List ℕ) (start : List Station) → Bytes x → {row : List Station} → LoadPromise s x start row Called.Done
-    → {events : List Event} {exit : List Station} → Happens row events exit → OnlyRounds events → length events ≡ aheadIn start x + 1
+    → {events : List CallMade} {exit : List Station} → Happens row events exit → OnlyRounds events → length events ≡ aheadIn start x + 1
     → (g : GoesOutInTime s x start row events) × (roundsSeen (g .out .before) + 1 ≡ aheadIn start x + 1)
 runs-out s x start b {row} loaded {events} {exit} h o l = go (outcome s x start b loaded h)
   where
@@ -114,7 +114,7 @@ runs-out s x start b {row} loaded {events} {exit} h o l = go (outcome s x start 
     passed : RowPassed row
     passed = subst RowPassed (sym (loaded .leaves-it)) (passes-on (load s x) start (load-taken s x start (loading-taken s x start b loaded) .passed))
 
-    go : Outcome s x start row events exit → (g : GoesOutInTime s x start row events) × (roundsSeen (g .out .before) + 1 ≡ aheadIn start x + 1)
+    go : Becomes s x start row events exit → (g : GoesOutInTime s x start row events) × (roundsSeen (g .out .before) + 1 ≡ aheadIn start x + 1)
     go (goesOut g) =
         (g, g .exactly (quiet-before (g .out .before) (plays (g .out .lent) (g .out .lentExit) (g .out .answer) ∷ g .out .later) (rw (g .out .parts) at quiet)))
     go (isWithdrawn w) = absurd (kept s (w .before) (w .later) (w .answer) (rw (w .parts) at (quiet-kept s events quiet)) (w .accepted))

@@ -14,7 +14,7 @@ use Rattle.bench.specs.declared.RoundAnswer.{RoundAnswer}
 use Rattle.bench.specs.declared.Station.{Station}
 use Rattle.bench.specs.Calls.{taken, round}
 use Rattle.bench.specs.Contest.{verdictOf, sumOf}
-use Rattle.bench.specs.Histories.{waiting, differentAhead, Event, plays, Happens, roundsSeen, loadsSeen, NoTrafficSeen, aheadIn, loads, withdraws, setsClock}
+use Rattle.bench.specs.Histories.{waiting, differentAhead, CallMade, plays, Happens, roundsSeen, loadsSeen, NoTrafficSeen, aheadIn, loads, withdraws, setsClock}
 use Rattle.bench.specs.Order.{sameBits}
 use Rattle.bench.specs.Promises.{RoundPromise, toldNumber}
 use Rattle.bench.specs.RoundStated.{winnerOf, stationAt}
@@ -34,12 +34,12 @@ abbrev pub aheadNow : Bits → List Station → ℕ
 aheadNow m row = differentAhead m (waiting row)
 
 -- The message x goes out from place s in a round of the history, and in time.
-pub record GoesOut (s : ℕ) (x : List ℕ) (row : List Station) (events : List Event) : Type 0 where
-  pub before : List Event
+pub record GoesOut (s : ℕ) (x : List ℕ) (row : List Station) (events : List CallMade) : Type 0 where
+  pub before : List CallMade
   pub lent : List ℕ
   pub lentExit : List ℕ
   pub answer : RoundAnswer
-  pub later : List Event
+  pub later : List CallMade
   pub parts : events ≡ before ++ (plays lent lentExit answer ∷ later)
   -- the rows at that round
   pub entry : List Station
@@ -53,7 +53,7 @@ pub record GoesOut (s : ℕ) (x : List ℕ) (row : List Station) (events : List 
   pub exactly : NoTrafficSeen before → roundsSeen before ≡ aheadNow (bitsSent x) row
 
 -- A round's answer, its words and the row after it show the message x going out from place s.
-pub record Shows (s : ℕ) (x : List ℕ) (exit : List Station) (lentExit : List ℕ) (a : RoundAnswer) : Type 0 where
+pub record RoundCarries (s : ℕ) (x : List ℕ) (exit : List Station) (lentExit : List ℕ) (a : RoundAnswer) : Type 0 where
   pub told : toldNumber (a .told) ≡ 0
   pub through : getD (a .verdicts) s (verdictOf Idle) ≡ verdictOf Through
   -- whole and readable: x is what demand 2's reader finds in the lent words afterwards
@@ -67,22 +67,22 @@ pub record Shows (s : ℕ) (x : List ℕ) (exit : List Station) (lentExit : List
 
 -- The message x, loaded at place s of the row start, which became row, goes out in a round of the calls that follow, whole and
 -- readable. A is `aheadIn start x`, L is counted up to that round, and so are the rounds.
-pub record GoesOutInTime (s : ℕ) (x : List ℕ) (start row : List Station) (events : List Event) : Type 0 where
+pub record GoesOutInTime (s : ℕ) (x : List ℕ) (start row : List Station) (events : List CallMade) : Type 0 where
   pub out : GoesOut s x row events
-  pub shown : Shows s x (out .exit) (out .lentExit) (out .answer)
+  pub shown : RoundCarries s x (out .exit) (out .lentExit) (out .answer)
   -- "no later than round 1 + A + L from its loading"
   pub latest : roundsSeen (out .before) + 1 ≤ 1 + aheadIn start x + loadsSeen x (out .before)
   -- "with no loading or withdrawal in exactly round A + 1"
   pub exactly : NoTrafficSeen (out .before) → roundsSeen (out .before) + 1 ≡ aheadIn start x + 1
 
 -- a round with 101 words lent
-abbrev pub RoundLent : Event → Type 0
+abbrev pub RoundLent : CallMade → Type 0
 RoundLent (loads i m a) = ⊥
 RoundLent (withdraws i a) = ⊥
 RoundLent (setsClock i c a) = ⊥
 RoundLent (plays lent lentExit a) = mostWords ≤ length lent
 
 -- rounds and nothing else
-abbrev pub OnlyRounds : List Event → Type 0
+abbrev pub OnlyRounds : List CallMade → Type 0
 OnlyRounds [] = Unit {0}
 OnlyRounds (e ∷ events) = RoundLent e × OnlyRounds events

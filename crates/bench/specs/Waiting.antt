@@ -20,7 +20,7 @@ use Rattle.bench.specs.Stations.{Bits, bitsSent, blank}
 use Rattle.bench.specs.OrderLaws.{ahead-differs, different-same}
 use Rattle.bench.specs.Calls.{load, withdraw, setClock, round, taken, after}
 use Rattle.bench.specs.Promises.{calledNumber, toldNumber, LoadPromise, WithdrawPromise, ClockPromise, RoundPromise}
-use Rattle.bench.specs.Histories.{waiting, Event, loads, withdraws, setsClock, plays, callOf, Keeps, Happens, nothing, then, roundSeen, roundsSeen, loadSeen, loadsSeen, trafficSeen}
+use Rattle.bench.specs.Histories.{waiting, CallMade, loads, withdraws, setsClock, plays, callOf, Keeps, Happens, nothing, then, roundSeen, roundsSeen, loadSeen, loadsSeen, trafficSeen}
 use Rattle.bench.specs.HistoryLaws.{accepted-taken, row-after}
 use Rattle.bench.specs.First.{first-among}
 use Rattle.bench.specs.RowLaws.{sent-some}
@@ -35,7 +35,7 @@ use Rattle.bench.specs.WaitStated.{WaitsAt, aheadNow, GoesOut}
 
 -- While m waits at s, a call is the round in which it goes out, when nothing is ahead of it; or its withdrawal; or it leaves m
 -- where it is, and then what is ahead of m is no more than before, less one for a round, more one for a loading ahead of m.
-pub data Step (s : ℕ) (m : Bits) (e : Event) (row next : List Station) : Type 0 where
+pub data Step (s : ℕ) (m : Bits) (e : CallMade) (row next : List Station) : Type 0 where
   goes : (lent lentExit : List ℕ) (a : RoundAnswer) → e ≡ plays lent lentExit a → taken (round lent) row ≡ true → winnerOf row ≡ m
       → aheadNow m row ≡ 0 → Step s m e row next
   back : (a : Called) → e ≡ withdraws s a → calledNumber a ≡ 0 → Step s m e row next
@@ -51,11 +51,11 @@ module _ (s : ℕ) (m : Bits) (some : m ≢ []) (row next : List Station) (h : W
       some (sym h ∙ ap (λ (j : ℕ). getD (waiting row) j []) q ∙ free)
 
   -- the row after a call that is turned away
-  same : (e : Event) → Keeps e row next → taken (callOf e) row ≡ false → next ≡ row
+  same : (e : CallMade) → Keeps e row next → taken (callOf e) row ≡ false → next ≡ row
   same e k t = row-after e row next k ∙ away-same (callOf e) row t
 
   -- what waits after one that is taken
-  waits-now : (e : Event) {ms : List Bits} → Keeps e row next → waiting (after (callOf e) row) ≡ ms → waiting next ≡ ms
+  waits-now : (e : CallMade) {ms : List Bits} → Keeps e row next → waiting (after (callOf e) row) ≡ ms → waiting next ≡ ms
   waits-now e k w = ap waiting (row-after e row next k) ∙ w
 
   step-load : (i : ℕ) (x : List ℕ) (a : Called) → LoadPromise i x row next a → Step s m (loads i x a) row next
@@ -123,7 +123,7 @@ module _ (s : ℕ) (m : Bits) (some : m ≢ []) (row next : List Station) (h : W
           stays (rw w h) (rw (w, said ∙ t) (omega arith)) (λ d. rw (w, said ∙ t) (omega arith))
 
   -- Every call is one of the three.
-  pub step : (e : Event) → Keeps e row next → Step s m e row next
+  pub step : (e : CallMade) → Keeps e row next → Step s m e row next
   step (loads i x a) k = step-load i x a k
   step (withdraws i a) k = step-withdraw i a k
   step (setsClock i c a) k = step-clock i c a k
@@ -132,10 +132,10 @@ module _ (s : ℕ) (m : Bits) (some : m ≢ []) (row next : List Station) (h : W
 -- ## All calls of a history
 
 -- The message x is withdrawn from place s by a call of the history, while it waits.
-pub record TakenBack (s : ℕ) (x : List ℕ) (row : List Station) (events : List Event) : Type 0 where
-  pub before : List Event
+pub record TakenBack (s : ℕ) (x : List ℕ) (row : List Station) (events : List CallMade) : Type 0 where
+  pub before : List CallMade
   pub answer : Called
-  pub later : List Event
+  pub later : List CallMade
   pub parts : events ≡ before ++ (withdraws s answer ∷ later)
   pub accepted : calledNumber answer ≡ 0
   pub entry : List Station
@@ -143,14 +143,14 @@ pub record TakenBack (s : ℕ) (x : List ℕ) (row : List Station) (events : Lis
   pub held : WaitsAt s (bitsSent x) entry
 
 -- What has become of the message x, which waited at place s.
-pub data Fate (s : ℕ) (x : List ℕ) (row : List Station) (events : List Event) (exit : List Station) : Type 0 where
+pub data Fate (s : ℕ) (x : List ℕ) (row : List Station) (events : List CallMade) (exit : List Station) : Type 0 where
   out : GoesOut s x row events → Fate s x row events exit
   withdrawn : TakenBack s x row events → Fate s x row events exit
   waits : WaitsAt s (bitsSent x) exit → roundsSeen events + aheadNow (bitsSent x) exit ≤ aheadNow (bitsSent x) row + loadsSeen x events
       → Fate s x row events exit
 
 -- What becomes of a message over any history: it goes out in time, or is withdrawn, or still waits and is in time.
-pub fate : (s : ℕ) (x : List ℕ) {row exit : List Station} {events : List Event} → Happens row events exit → WaitsAt s (bitsSent x) row
+pub fate : (s : ℕ) (x : List ℕ) {row exit : List Station} {events : List CallMade} → Happens row events exit → WaitsAt s (bitsSent x) row
     → Fate s x row events exit
 unfolding roundsSeen loadsSeen
 fate s x nothing h = waits h (omega arith)
@@ -164,11 +164,11 @@ fate s x (then {entry} {middle} {exit} {e} {events} k r) h = go (step s (bitsSen
           lentExit = lentExit;
           answer = a;
           later = events;
-          parts = ap (λ (y : Event). y ∷ events) q;
+          parts = ap (λ (y : CallMade). y ∷ events) q;
           entry = entry;
           exit = middle;
           until = nothing;
-          keeps = subst (λ (y : Event). Keeps y entry middle) q k;
+          keeps = subst (λ (y : CallMade). Keeps y entry middle) q k;
           played = t;
           held = h;
           wins = w;
@@ -180,7 +180,7 @@ fate s x (then {entry} {middle} {exit} {e} {events} k r) h = go (step s (bitsSen
           before = [];
           answer = a;
           later = events;
-          parts = ap (λ (y : Event). y ∷ events) q;
+          parts = ap (λ (y : CallMade). y ∷ events) q;
           accepted = t;
           entry = entry;
           until = nothing;
@@ -195,7 +195,7 @@ fate s x (then {entry} {middle} {exit} {e} {events} k r) h = go (step s (bitsSen
               before = e ∷ f .before;
               answer = f .answer;
               later = f .later;
-              parts = ap (λ (y : List Event). e ∷ y) (f .parts);
+              parts = ap (λ (y : List CallMade). e ∷ y) (f .parts);
               accepted = f .accepted;
               entry = f .entry;
               until = then k (f .until);
@@ -209,7 +209,7 @@ fate s x (then {entry} {middle} {exit} {e} {events} k r) h = go (step s (bitsSen
               lentExit = f .lentExit;
               answer = f .answer;
               later = f .later;
-              parts = ap (λ (y : List Event). e ∷ y) (f .parts);
+              parts = ap (λ (y : List CallMade). e ∷ y) (f .parts);
               entry = f .entry;
               exit = f .exit;
               until = then k (f .until);

@@ -22,7 +22,7 @@ use Rattle.bench.specs.OrderLaws.{same-refl}
 use Rattle.bench.specs.Contest.{roundOf, verdictOf}
 use Rattle.bench.specs.Calls.{load, round, numberOf, taken}
 use Rattle.bench.specs.Promises.{calledNumber, LoadPromise, RoundPromise, RoundSaid, said, played, roundSays}
-use Rattle.bench.specs.Histories.{waiting, aheadIn, Event, loads, withdraws, setsClock, plays, Happens, roundsSeen, loadSeen, loadsSeen, withdrawalSeen, NoWithdrawalSeen, trafficSeen, NoTrafficSeen}
+use Rattle.bench.specs.Histories.{waiting, aheadIn, CallMade, loads, withdraws, setsClock, plays, Happens, roundsSeen, loadSeen, loadsSeen, withdrawalSeen, NoWithdrawalSeen, trafficSeen, NoTrafficSeen}
 use Rattle.bench.specs.RoundStated.{winnerOf, stationAt}
 use Rattle.bench.specs.Places.{waiting-at, waiting-length, empty-none}
 use Rattle.bench.specs.Taken.{LoadTaken, load-taken}
@@ -32,7 +32,7 @@ use Rattle.bench.specs.Counting.{own-count, without-at}
 use Rattle.bench.specs.CallLaws.{load-waiting, round-waiting}
 use Rattle.bench.specs.Readable.{round-reads}
 use Rattle.bench.specs.Waiting.{TakenBack, Fate, out, withdrawn, waits, fate}
-use Rattle.bench.specs.WaitStated.{WaitsAt, aheadNow, GoesOut, Shows, GoesOutInTime}
+use Rattle.bench.specs.WaitStated.{WaitsAt, aheadNow, GoesOut, RoundCarries, GoesOutInTime}
 
 -- ## What it is to go out
 
@@ -53,7 +53,7 @@ module _ (s : ℕ) (x : List ℕ) (b : Bytes x) (lo : 1 ≤ length x) (hi : leng
       sym (waiting-at exit s) ∙ ap (λ (r : List Station). getD (waiting r) s []) (p .leaves-it)
       ∙ rw (round-waiting lent row t) (without-at s (winnerOf row) (waiting row) ∙ rw (h, w, same-refl (bitsSent x)))
 
-  shows : Shows s x exit lentExit a
+  shows : RoundCarries s x exit lentExit a
   shows =
       let l = on-the-line lent row t in
       record {
@@ -70,45 +70,45 @@ module _ (s : ℕ) (x : List ℕ) (b : Bytes x) (lo : 1 ≤ length x) (hi : leng
 -- ## Histories in which nothing is withdrawn, or nothing disturbs
 
 -- Where no withdrawal from s is seen, no call of the history has withdrawn from s.
-pub kept : (s : ℕ) (before later : List Event) (a : Called) → NoWithdrawalSeen s (before ++ (withdraws s a ∷ later)) → calledNumber a ≡ 0 → ⊥
+pub kept : (s : ℕ) (before later : List CallMade) (a : Called) → NoWithdrawalSeen s (before ++ (withdraws s a ∷ later)) → calledNumber a ≡ 0 → ⊥
 kept s [] later a n t = never (rw (eq-eqb s s refl) (eq-eqb (calledNumber a) 0 t)) (n .0)
 kept s (e ∷ before) later a n t = kept s before later a (n .1) t
 
-traffic-withdraws : (s : ℕ) (e : Event) → trafficSeen e ≡ false → withdrawalSeen s e ≡ false
+traffic-withdraws : (s : ℕ) (e : CallMade) → trafficSeen e ≡ false → withdrawalSeen s e ≡ false
 traffic-withdraws s (loads i m a) u = refl
 traffic-withdraws s (withdraws i a) u = rw (u, and-false (eqb s i))
 traffic-withdraws s (setsClock i c a) u = refl
 traffic-withdraws s (plays entry exit a) u = refl
 
-traffic-loads : (m : Bits) (e : Event) → trafficSeen e ≡ false → loadSeen m e ≡ 0
+traffic-loads : (m : Bits) (e : CallMade) → trafficSeen e ≡ false → loadSeen m e ≡ 0
 traffic-loads m (loads i x a) u = rw u
 traffic-loads m (withdraws i a) u = refl
 traffic-loads m (setsClock i c a) u = refl
 traffic-loads m (plays entry exit a) u = refl
 
 -- Without a loading or withdrawal nothing is withdrawn from s ..
-pub quiet-kept : (s : ℕ) (events : List Event) → NoTrafficSeen events → NoWithdrawalSeen s events
+pub quiet-kept : (s : ℕ) (events : List CallMade) → NoTrafficSeen events → NoWithdrawalSeen s events
 quiet-kept s [] u = tt
 quiet-kept s (e ∷ events) u = (traffic-withdraws s e (u .0), quiet-kept s events (u .1))
 
 -- .. and L is 0 ..
-pub quiet-loads : (x : List ℕ) (events : List Event) → NoTrafficSeen events → loadsSeen x events ≡ 0
+pub quiet-loads : (x : List ℕ) (events : List CallMade) → NoTrafficSeen events → loadsSeen x events ≡ 0
 unfolding loadsSeen
 quiet-loads x [] u = refl
 quiet-loads x (e ∷ events) u = omega (arith, traffic-loads (bitsSent x) e (u .0), quiet-loads x events (u .1))
 
 -- .. and so it is up to any call.
-pub quiet-before : (before later : List Event) → NoTrafficSeen (before ++ later) → NoTrafficSeen before
+pub quiet-before : (before later : List CallMade) → NoTrafficSeen (before ++ later) → NoTrafficSeen before
 quiet-before [] later u = tt
 quiet-before (e ∷ before) later u = (u .0, quiet-before before later (u .1))
 
 -- ## Demand 3
 
 -- What becomes of it over any history of calls.
-pub data Outcome (s : ℕ) (x : List ℕ) (start row : List Station) (events : List Event) (exit : List Station) : Type 0 where
-  goesOut : GoesOutInTime s x start row events → Outcome s x start row events exit
-  isWithdrawn : TakenBack s x row events → Outcome s x start row events exit
-  stillWaits : WaitsAt s (bitsSent x) exit → roundsSeen events ≤ aheadIn start x + loadsSeen x events → Outcome s x start row events exit
+pub data Becomes (s : ℕ) (x : List ℕ) (start row : List Station) (events : List CallMade) (exit : List Station) : Type 0 where
+  goesOut : GoesOutInTime s x start row events → Becomes s x start row events exit
+  isWithdrawn : TakenBack s x row events → Becomes s x start row events exit
+  stillWaits : WaitsAt s (bitsSent x) exit → roundsSeen events ≤ aheadIn start x + loadsSeen x events → Becomes s x start row events exit
 
 module _ (s : ℕ) (x : List ℕ) (start : List Station) (b : Bytes x) {row : List Station} (loaded : LoadPromise s x start row Called.Done) where
   -- The loading was answered with Done, and so it was taken.
@@ -130,7 +130,7 @@ module _ (s : ℕ) (x : List ℕ) (start : List Station) (b : Bytes x) {row : Li
       rw (loaded .leaves-it, load-waiting start s x loading-taken)
       (own-count (bitsSent x) (waiting start) s (waiting-at start s ∙ empty-none (stationAt start s) (ok .free)))
 
-  in-time : (events : List Event) → GoesOut s x row events → GoesOutInTime s x start row events
+  in-time : (events : List CallMade) → GoesOut s x row events → GoesOutInTime s x start row events
   in-time events g =
       record {
         out = g;
@@ -140,27 +140,27 @@ module _ (s : ℕ) (x : List ℕ) (start : List Station) (b : Bytes x) {row : Li
       }
 
   -- A loaded message goes out in time, or is withdrawn while it waits, or still waits and its time is not yet over.
-  pub outcome : {events : List Event} {exit : List Station} → Happens row events exit → Outcome s x start row events exit
+  pub outcome : {events : List CallMade} {exit : List Station} → Happens row events exit → Becomes s x start row events exit
   outcome {events} {exit} h = go (fate s x h here)
     where
-      go : Fate s x row events exit → Outcome s x start row events exit
+      go : Fate s x row events exit → Becomes s x start row events exit
       go (out g) = goesOut (in-time events g)
       go (withdrawn w) = isWithdrawn w
       go (waits f l) = stillWaits f (omega (arith, own))
 
   -- WAITING ENDS. Whatever calls follow the loading, and whatever they answer, so long as each keeps its promise: once 1 + A + L
   -- of the rounds have been played, and no withdrawal from the place was accepted, the message has gone out, in time.
-  pub waiting-ends : {events : List Event} {exit : List Station} → Happens row events exit → NoWithdrawalSeen s events
+  pub waiting-ends : {events : List CallMade} {exit : List Station} → Happens row events exit → NoWithdrawalSeen s events
       → 1 + aheadIn start x + loadsSeen x events ≤ roundsSeen events → GoesOutInTime s x start row events
   waiting-ends {events} {exit} h n l = go (outcome h)
     where
-      go : Outcome s x start row events exit → GoesOutInTime s x start row events
+      go : Becomes s x start row events exit → GoesOutInTime s x start row events
       go (goesOut g) = g
       go (isWithdrawn w) = absurd (kept s (w .before) (w .later) (w .answer) (rw (w .parts) at n) (w .accepted))
       go (stillWaits f k) = absurd (omega arith)
 
   -- EXACTLY ROUND A + 1. Where no loading or withdrawal was accepted, it goes out in that round.
-  pub exact-round : {events : List Event} {exit : List Station} → Happens row events exit → NoTrafficSeen events → aheadIn start x + 1 ≤ roundsSeen events
+  pub exact-round : {events : List CallMade} {exit : List Station} → Happens row events exit → NoTrafficSeen events → aheadIn start x + 1 ≤ roundsSeen events
       → (g : GoesOutInTime s x start row events) × (roundsSeen (g .out .before) + 1 ≡ aheadIn start x + 1)
   exact-round {events} h u l =
       let g = waiting-ends h (quiet-kept s events u) (omega (arith, quiet-loads x events u)) in

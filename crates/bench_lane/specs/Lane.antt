@@ -6,7 +6,7 @@ use lib.Dec.{eqb, leb, ltb}
 use Rattle.frame.specs.Bits.{odd}
 use Rattle.bench_lane.specs.declared.Ask.{Ask}
 use Rattle.bench_lane.specs.declared.Ask.the-variants.{Out, Ended, Bit}
-use Rattle.bench_lane.specs.declared.Asked.{Asked}
+use Rattle.bench_lane.specs.declared.LineAsk.{LineAsk}
 
 -- what there is of a place at a bit: how many bits it has to send, the byte that the bit lies in, the two widths of its
 -- clock, and the bit at which it lost, or 0
@@ -44,11 +44,11 @@ lostBy k one Ended lost = k
 lostBy k one (Bit own width) lost = cond (Bool·beq own one) lost k
 
 -- of a width and those asked for before it, the one that stands on the line: the longest active, the shortest passive one
-abbrev pub outlastsOf : Asked → ℕ → Bool → ℕ
+abbrev pub outlastsOf : LineAsk → ℕ → Bool → ℕ
 outlastsOf asked width active = cond (asked .some) (cond active (max width (asked .width)) (min width (asked .width))) width
 
 -- one place more; only one that still sends a bit has a say
-abbrev pub takenIn : Bool → Asked → Ask → Asked
+abbrev pub takenIn : Bool → LineAsk → Ask → LineAsk
 takenIn active asked Out = asked
 takenIn active asked Ended = asked
 takenIn active asked (Bit own width) = record { some = true; width = outlastsOf asked width active }

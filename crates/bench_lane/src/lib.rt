@@ -16,7 +16,7 @@ pub enum Ask {
 }
 
 // What places together ask of the line: whether anybody asks, and how long the bit lasts.
-pub struct Asked {
+pub struct LineAsk {
     pub some: bool,
     pub width: u32,
 }
@@ -65,13 +65,13 @@ fn width_for(short: u32, long: u32, active: bool, one: bool) -> u32
 
 // What one place asks, taken in with what the places after it ask: of two passive bits the shorter, of two active ones
 // the longer.
-pub fn taken_in(asked: Asked, ask: Ask, active: bool) -> Asked
+pub fn taken_in(asked: LineAsk, ask: Ask, active: bool) -> LineAsk
     ensures { λ r. ⌜ r ≡ takenIn active asked ask ⌝ }
 {
     match ask {
         Ask::Out => asked,
         Ask::Ended => asked,
-        Ask::Bit(_, width) => Asked {
+        Ask::Bit(_, width) => LineAsk {
             some: true,
             width: outlasts(asked, width, active),
         },
@@ -79,7 +79,7 @@ pub fn taken_in(asked: Asked, ask: Ask, active: bool) -> Asked
 }
 
 // The width that stands on the line of one that is asked for and those that were asked for before.
-fn outlasts(asked: Asked, width: u32, active: bool) -> u32
+fn outlasts(asked: LineAsk, width: u32, active: bool) -> u32
     ensures { λ r. ⌜ r ≡ outlastsOf asked width active ⌝ }
 {
     if asked.some {

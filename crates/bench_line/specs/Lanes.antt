@@ -6,7 +6,7 @@ use mathlib.Core.List.{List, [], _∷_}
 use lib.ListN.{getD}
 use Rattle.bench.specs.Stations.{mostStations, mostStored}
 use Rattle.bench_lane.specs.declared.Ask.{Ask}
-use Rattle.bench_lane.specs.declared.Asked.{Asked}
+use Rattle.bench_lane.specs.declared.LineAsk.{LineAsk}
 use Rattle.bench_lane.specs.Lane.{Lane, askOf, lostBy, takenIn}
 use Rattle.loops.specs.Scan.{from}
 
@@ -42,7 +42,7 @@ unfoldable pub asksAt : Lanes → List ℕ → Bool → ℕ → List Ask
 asksAt l lost active j = from (λ (i : ℕ). askOf (laneAt l lost j i) active j) 0 mostStations
 
 -- what all of them ask together
-unfoldable pub allAsked : Bool → List Ask → Asked
+unfoldable pub allAsked : Bool → List Ask → LineAsk
 allAsked active [] = record { some = false; width = 0 }
 allAsked active (ask ∷ asks) = takenIn active (allAsked active asks) ask
 

@@ -10,7 +10,7 @@ use lib.ListN.{length, drop, getD, set}
 use Rattle.bench.specs.Stations.{mostStations}
 use Rattle.bench_lane.specs.declared.Ask.{Ask}
 use Rattle.bench_lane.specs.declared.Ask.the-variants.{Out}
-use Rattle.bench_lane.specs.declared.Asked.{Asked}
+use Rattle.bench_lane.specs.declared.LineAsk.{LineAsk}
 use Rattle.bench_lane.specs.Lane.{askOf, lostBy, takenIn}
 use Rattle.loops.specs.Scan.{from-length, from-getD, fold-start, fold-more, fold-all, filled, fill-ahead, fill-more, fill-all}
 use Rattle.bench_line.specs.Lanes.{Lanes, laneAt, asksAt, allAsked, lostAll}
@@ -37,14 +37,14 @@ module _ (l : Lanes) (lost : List ℕ) (active : Bool) (j : ℕ) where
 
   -- .. one place more ..
   pub ask-more : (i : ℕ) → 0 < i → i ≤ mostStations → (ask : Ask) → ask ≡ askOf (laneAt l lost j (i - 1)) active j
-      → (v u : Asked) → v ≡ allAsked active (drop i (asksAt l lost active j)) → u ≡ takenIn active v ask
+      → (v u : LineAsk) → v ≡ allAsked active (drop i (asksAt l lost active j)) → u ≡ takenIn active v ask
       → u ≡ allAsked active (drop (i - 1) (asksAt l lost active j))
   ask-more i lo hi ask e v u f g =
       fold-more (allAsked active) (takenIn active) taken-one (asksAt l lost active j) i Out lo (omega (arith, asks-length)) v u f
       (g ∙ ap (takenIn active v) (e ∙ sym (ask-at (i - 1) (omega arith))))
 
   -- .. and all of them
-  pub ask-all : (i : ℕ) → i ≤ 0 → (v : Asked) → v ≡ allAsked active (drop i (asksAt l lost active j)) → v ≡ allAsked active (asksAt l lost active j)
+  pub ask-all : (i : ℕ) → i ≤ 0 → (v : LineAsk) → v ≡ allAsked active (drop i (asksAt l lost active j)) → v ≡ allAsked active (asksAt l lost active j)
   ask-all = fold-all (allAsked active) (takenIn active) taken-one (asksAt l lost active j)
 
   -- ## What every place hears

@@ -15,7 +15,7 @@ use Rattle.bench.specs.Round.{Pulse, Seat, out, on, widthsOf, lasts, nobodyAsks
 use Rattle.bench.specs.Contest.{pulsesOf}
 use Rattle.bench_lane.specs.declared.Ask.{Ask}
 use Rattle.bench_lane.specs.declared.Ask.the-variants.{Out, Ended, Bit}
-use Rattle.bench_lane.specs.declared.Asked.{Asked}
+use Rattle.bench_lane.specs.declared.LineAsk.{LineAsk}
 use Rattle.loops.specs.Scan.{from}
 use Rattle.bench_line.specs.Lanes.{mostSent, Lanes}
 
@@ -63,5 +63,5 @@ askFor (on []) = Ended
 askFor (on (p ∷ ps)) = Bit (p .bit) (p .width)
 
 -- what the places of the definition ask together
-abbrev pub askedBy : Bool → List Pulse → Asked
+abbrev pub askedBy : Bool → List Pulse → LineAsk
 askedBy active ps = record { some = not (nobodyAsks ps); width = lasts active (widthsOf ps) }

@@ -13,7 +13,7 @@ use Rattle.laws.specs.Lent.{sets-then}
 use Rattle.frame.specs.Writing.{mostWords}
 use Rattle.bench.specs.Stations.{mostStations}
 use Rattle.bench.specs.Round.{Seat, asked, widthsOf, lasts, onLine, heard, Course, over, bitThen, nobodyAsks, mostBits, play, faredAt}
-use Rattle.bench_lane.specs.declared.Asked.{Asked}
+use Rattle.bench_lane.specs.declared.LineAsk.{LineAsk}
 use Rattle.loops.specs.Scan.{from-length}
 use Rattle.bench_lane.specs.Lane.{askOf, lostBy}
 use Rattle.bench_line.specs.Lanes.{Lanes, laneAt, asksAt, allAsked, lostAll}
@@ -98,7 +98,7 @@ module _ (l : Lanes) (ok : LanesOk l) (lost₀ old lost : List ℕ) (active : Bo
       let z : mostBits - j ≡ 0 = omega arith in
       ends (ap (λ (n : ℕ). play n active (suc j) (seatsAt l lost active j)) z ∙ play-none active (suc j) (seatsAt l lost active j))
 
-  module _ (a : Asked) (e : a ≡ allAsked active (asksAt l lost active j)) where
+  module _ (a : LineAsk) (e : a ≡ allAsked active (asksAt l lost active j)) where
     -- what the places ask at this bit
     told : a ≡ askedBy active (asked (seatsAt l lost active j))
     told = e ∙ ap (allAsked active) (asks-are l ok lost active j) ∙ asked-are active (seatsAt l lost active j)
@@ -106,7 +106,7 @@ module _ (l : Lanes) (ok : LanesOk l) (lost₀ old lost : List ℕ) (active : Bo
     -- Where nobody asks for a bit all is sent.
     pub sending-over : not (a .some) ≡ true → SendsBits l lost₀ lost old new j
     sending-over t =
-        let n : nobodyAsks (asked (seatsAt l lost active j)) ≡ true = not-false _ (ap (λ (x : Asked). x .some) (sym told) ∙ not-true (a .some) t) in
+        let n : nobodyAsks (asked (seatsAt l lost active j)) ≡ true = not-false _ (ap (λ (x : LineAsk). x .some) (sym told) ∙ not-true (a .some) t) in
         ends (play-over (mostBits - j) active (suc j) (seatsAt l lost active j) n)
 
     -- one bit more
@@ -125,9 +125,9 @@ module _ (l : Lanes) (ok : LanesOk l) (lost₀ old lost : List ℕ) (active : Bo
       unfolding seats
       goes-on =
           let z : mostBits - j ≡ suc (mostBits - (j + 1)) = omega arith in
-          let n : nobodyAsks (asked seats) ≡ false = not-true _ (ap (λ (x : Asked). x .some) (sym told) ∙ not-false (a .some) t) in
+          let n : nobodyAsks (asked seats) ≡ false = not-true _ (ap (λ (x : LineAsk). x .some) (sym told) ∙ not-false (a .some) t) in
           ap (λ (k : ℕ). play k active (suc j) seats) z
-          ∙ play-more (mostBits - (j + 1)) active (suc j) seats (a .width) n (ap (λ (x : Asked). x .width) told)
+          ∙ play-more (mostBits - (j + 1)) active (suc j) seats (a .width) n (ap (λ (x : LineAsk). x .width) told)
           ∙ ap (λ (x : List Seat). bitThen (a .width) (play (mostBits - (j + 1)) (not active) (suc (suc j)) x)) (sym then)
           ∙ ap (λ (k : ℕ). bitThen (a .width) (play (mostBits - (j + 1)) (not active) (suc k) (seatsAt l lost′ (not active) (j + 1)))) (sym (add-one j))
 

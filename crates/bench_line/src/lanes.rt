@@ -17,8 +17,8 @@ ghost use Rattle.bench_line.specs.Lanes.{lanesOf, laneAt, asksAt, allAsk
 use bench::MOST_SENT;
 use bench::MOST_STATIONS;
 use bench_lane::Ask;
-use bench_lane::Asked;
 use bench_lane::BITS_OF_BYTE;
+use bench_lane::LineAsk;
 use symbol::Symbol;
 use units::Micros;
 
@@ -54,11 +54,11 @@ pub(crate) fn all_ask(
     lost: &[usize; MOST_STATIONS],
     active: bool,
     j: usize,
-) -> Asked
+) -> LineAsk
     requires { ⌜ j < mostBits ⌝ }
     ensures { λ r. ⌜ r ≡ allAsked active (asksAt (lanesOf (now (counts .entry)) (now (frames .entry)) (now (shorts .entry)) (now (longs .entry))) (now (lost .entry)) active j) ⌝ }
 {
-    let mut all = Asked {
+    let mut all = LineAsk {
         some: false,
         width: 0,
     };

@@ -12,7 +12,7 @@ use Rattle.symbol.specs.Clocks.{goodOf}
 use Rattle.frame.specs.Writing as writing
 use Rattle.frame.specs.Answers.{Told}
 use Rattle.frame_numbers.specs.Numbers.{symbolNumber, kindNumber, kindOf}
-use Rattle.desk_text.specs.Calls as text
+use Rattle.desk_text.specs.Calls as desk
 use Rattle.c_frame_answers.specs.declared.Check.{Check}
 use Rattle.c_frame_answers.specs.declared.Class.{Class}
 use Rattle.c_frame_answers.specs.declared.Timed.{Timed}
@@ -33,7 +33,7 @@ abbrev pub timedAs : Bool → Timed
 timedAs g = record { number = 0; good = g }
 
 -- what came of a trace: 0 and how many intervals were written, or the number of the refusal and 0
-abbrev pub tracedAs : tracing.Outcome → Counted
+abbrev pub tracedAs : tracing.TraceOutcome → Counted
 tracedAs (tracing.wrote n) = record { number = 0; count = n }
 tracedAs (tracing.turnedAway k) = record { number = k; count = 0 }
 
@@ -63,5 +63,5 @@ readAs t =
     }
 
 -- what the desk tells: its number, the first bad line, and how many bytes of text were laid
-abbrev pub deskAs : text.Told → Desk
+abbrev pub deskAs : desk.Told → Desk
 deskAs t = record { number = t .number; line = t .line; length = t .length }

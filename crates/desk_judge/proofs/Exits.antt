@@ -13,12 +13,12 @@ use Rattle.bytes.specs.Bytes.{indexOf, slice}
 use Rattle.laws.specs.Lent.{sets-first}
 use Rattle.laws.specs.Tests.{upTo}
 use Rattle.desk_text.specs.declared.Labels.{Labels}
-use Rattle.desk_text.specs.declared.Judged.{Judged}
-use Rattle.desk_text.specs.declared.Judged.the-variants.{Good, Bad, FewLentWords}
+use Rattle.desk_text.specs.declared.JudgedInput.{JudgedInput}
+use Rattle.desk_text.specs.declared.JudgedInput.the-variants.{Good, Bad, FewLentWords}
 use Rattle.desk_text.specs.Grammar.{newline}
 use Rattle.desk_text.specs.Input.{Line, shut, unshut, lines, field, ownLine, mostWidths, badFrom, widthsFrom, firstBad, recordingOf}
 use Rattle.desk_text.specs.PieceLaws.{lines-first, lines-none}
-use Rattle.desk_text.specs.Calls.{good, bad, few, verdictBy, judging, judgedTold, verdictTells, laidOn, JudgePromise}
+use Rattle.desk_text.specs.Calls.{good, bad, few, judgementBy, judging, judgedTold, verdictTells, laidOn, JudgePromise}
 use Rattle.desk_judge.specs.declared.Own.{Own}
 use Rattle.desk_judge.specs.declared.Own.the-variants.{Of as Two, Not as None}
 use Rattle.desk_judge.specs.declared.Taken.{Taken}
@@ -62,7 +62,7 @@ refuses-61 s entry h = record { tells-it = rw (lt-ltb (length entry) mostWidths 
 
 module _ (s entry : List ℕ) (h : mostWidths ≤ length entry) where
   -- what the lines come to settles the promise
-  promised : (ls : List Line) → lines s ≡ ls → (exit : List ℕ) (r : Judged) → judgedTold r ≡ verdictTells (verdictBy ls) → exit ≡ laidOn (recordingOf ls) entry → JudgePromise s entry exit r
+  promised : (ls : List Line) → lines s ≡ ls → (exit : List ℕ) (r : JudgedInput) → judgedTold r ≡ verdictTells (judgementBy ls) → exit ≡ laidOn (recordingOf ls) entry → JudgePromise s entry exit r
   unfolding judging
   promised ls e exit r p q = record {
     tells-it = rw (le-ltb (length entry) mostWidths h, e) p;
@@ -97,7 +97,7 @@ module _ (s entry : List ℕ) (h : mostWidths ≤ length entry) where
           let n : ownLine (shut (take e s)) ≡ false = own-bad (take e s) (sym a ∙ b) in
           refused-first (shut (take e s) ∷ lines (drop (e + 1) s)) split (rw n) (rw n)
 
-      pub first-good : {w : Own} {labels : Labels} {exit : List ℕ} {r : Judged} → w ≡ ownOf (take e s) → w ≡ Two labels
+      pub first-good : {w : Own} {labels : Labels} {exit : List ℕ} {r : JudgedInput} → w ≡ ownOf (take e s) → w ≡ Two labels
           → AfterOwn labels (take (length s - (e + 1)) (drop (e + 1) s)) entry exit r → JudgePromise s entry exit r
       first-good {labels = labels} {exit = exit} {r = r} a b t = go (drop (e + 1) s) split (rw (rest-all s (e + 1)) at t)
         where

@@ -8,11 +8,11 @@ use lib.Dec.{eqb}
 use lib.ListN.{length, getD}
 use lib.Seq.{sets}
 use Rattle.desk_text.specs.declared.Labels.{Labels}
-use Rattle.desk_text.specs.declared.Judged.{Judged}
+use Rattle.desk_text.specs.declared.JudgedInput.{JudgedInput}
 use Rattle.label.specs.Labels.{isLabel}
 use Rattle.desk_text.specs.Grammar.{fields, spelt}
 use Rattle.desk_text.specs.Input.{shut, lines, field, ownLine, ivLine, mostWidths, badFrom, widthsFrom}
-use Rattle.desk_text.specs.declared.Judged.the-variants.{Good, Bad}
+use Rattle.desk_text.specs.declared.JudgedInput.the-variants.{Good, Bad}
 use Rattle.desk_field.specs.declared.Width.{Width}
 use Rattle.desk_field.specs.Widths.{widthBy}
 use Rattle.desk_judge.specs.declared.Own.{Own}
@@ -48,12 +48,12 @@ pub record Taking (s entry exit : List ℕ) (r : Taken) : Type 0 where
   pub few : length (widthsFrom 2 (lines s)) ≤ mostWidths
 
 -- what judging comes to after a good first line with these labels
-abbrev pub judgedBy : Bool → Labels → ℕ → ℕ → Judged
+abbrev pub judgedBy : Bool → Labels → ℕ → ℕ → JudgedInput
 judgedBy true labels widths line = Good labels widths
 judgedBy false labels widths line = Bad line
 
 -- The answer after a good first line with these labels, and the lent words.
-pub record AfterOwn (labels : Labels) (s entry exit : List ℕ) (r : Judged) : Type 0 where
+pub record AfterOwn (labels : Labels) (s entry exit : List ℕ) (r : JudgedInput) : Type 0 where
   pub answer : r ≡ judgedBy (eqb (badFrom 2 (lines s)) 0) labels (length (widthsFrom 2 (lines s))) (badFrom 2 (lines s))
   pub laid : exit ≡ sets entry 0 (widthsFrom 2 (lines s))
   pub few : length (widthsFrom 2 (lines s)) ≤ mostWidths

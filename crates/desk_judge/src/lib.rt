@@ -9,7 +9,7 @@ ghost use Rattle.desk_judge.specs.Found.{ivOf, labelsOf, ownOf, Taking, 
 use desk_field::Width;
 use desk_field::same;
 use desk_field::width_in;
-use desk_text::Judged;
+use desk_text::JudgedInput;
 use desk_text::Labels;
 use desk_text::MOST_WIDTHS;
 use label::is_label;
@@ -120,25 +120,25 @@ fn iv_lines(s: &[u8], lent: &mut [u32]) -> Taken
 }
 
 // Judges an input. Its widths are laid in the lent words, of which 16,384 are asked for.
-pub fn judge(input: &[u8], lent: &mut [u32]) -> Judged
+pub fn judge(input: &[u8], lent: &mut [u32]) -> JudgedInput
     ensures { λ r. ⌜ JudgePromise (now (input .entry)) (now (lent .entry)) (now (lent .exit)) r ⌝ }
 {
     if lent.len() < MOST_WIDTHS {
-        return Judged::FewLentWords;
+        return JudgedInput::FewLentWords;
     }
     let e = bytes::scan::find(input, 0, input.len(), NEWLINE);
     if e == input.len() {
-        return Judged::Bad { line: 1 };
+        return JudgedInput::Bad { line: 1 };
     }
     let own = own_line(&input[..e]);
     match own {
-        Own::Not => Judged::Bad { line: 1 },
+        Own::Not => JudgedInput::Bad { line: 1 },
         Own::Of(labels) => after_own(&input[e + 1..], labels, lent),
     }
 }
 
 // What follows a good first line.
-fn after_own(s: &[u8], labels: Labels, lent: &mut [u32]) -> Judged
+fn after_own(s: &[u8], labels: Labels, lent: &mut [u32]) -> JudgedInput
     requires { ⌜ mostWidths ≤ length (now lent) ⌝ }
     ensures { λ r. ⌜ AfterOwn labels (now (s .entry)) (now (lent .entry)) (now (lent .exit)) r ⌝ }
 {
@@ -146,8 +146,8 @@ fn after_own(s: &[u8], labels: Labels, lent: &mut [u32]) -> Judged
     let widths = taken.widths;
     let line = taken.line;
     if line == 0 {
-        Judged::Good { labels, widths }
+        JudgedInput::Good { labels, widths }
     } else {
-        Judged::Bad { line }
+        JudgedInput::Bad { line }
     }
 }

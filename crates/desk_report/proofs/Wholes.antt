@@ -13,13 +13,13 @@ use Rattle.laws.specs.Tests.{neither}
 use Rattle.frame.specs.Faults.{mostBytes}
 use Rattle.frame.specs.ReadingOn.{answersIn}
 use Rattle.desk_text.specs.declared.Labels.{Labels}
-use Rattle.desk_text.specs.declared.Judged.{Judged}
-use Rattle.desk_text.specs.declared.Judged.the-variants.{Good, Bad, FewLentWords}
+use Rattle.desk_text.specs.declared.JudgedInput.{JudgedInput}
+use Rattle.desk_text.specs.declared.JudgedInput.the-variants.{Good, Bad, FewLentWords}
 use Rattle.desk_text.specs.declared.Answered.{Answered}
 use Rattle.desk_text.specs.declared.Answered.the-variants.{Report, Refused, FewLent}
 use Rattle.desk_text.specs.Input.{Line, lines, firstBad, customerOf, vehicleOf, recordingOf, mostWidths}
 use Rattle.desk_text.specs.Report.{header, refusal, rowsOf, report, deskOf}
-use Rattle.desk_text.specs.Calls.{Tale, Verdict, good, bad, verdictBy, judging, judgedTold, verdictTells, laidOn, JudgePromise, mostText, lentShort, pageBy, answering, answeredTold, pageTells, DeskPromise}
+use Rattle.desk_text.specs.Calls.{Tale, Judgement, good, bad, judgementBy, judging, judgedTold, verdictTells, laidOn, JudgePromise, mostText, lentShort, pageBy, answering, answeredTold, pageTells, DeskPromise}
 use Rattle.desk_text.specs.LabelPlaces.{Stand, labels-stand}
 use Rattle.desk_text.specs.Whole.{desk-good, desk-bad, desk-size}
 use Rattle.desk_report.specs.Laying.{Laid, Room}
@@ -66,15 +66,15 @@ record Fine (s left : List ℕ) (l : Labels) (n : ℕ) : Type 0 where
   count : n ≤ length left
 
 -- the verdict on the lines, good or bad
-abbrev verdictIf : List Line → Bool → Verdict
+abbrev verdictIf : List Line → Bool → Judgement
 verdictIf ls b = cond b (good (length (customerOf ls)) (length (vehicleOf ls)) (length (recordingOf ls))) (bad (firstBad ls))
 
 module _ (s words : List ℕ) (enough : mostWidths ≤ length words) {left : List ℕ} where
-  judged-by : {j : Judged} → JudgePromise s words left j → judgedTold j ≡ verdictTells (verdictBy (lines s))
+  judged-by : {j : JudgedInput} → JudgePromise s words left j → judgedTold j ≡ verdictTells (judgementBy (lines s))
   unfolding judging
   judged-by q = q .tells-it ∙ rw (le-ltb (length words) mostWidths enough)
 
-  words-by : {j : Judged} → JudgePromise s words left j → left ≡ laidOn (recordingOf (lines s)) words
+  words-by : {j : JudgedInput} → JudgePromise s words left j → left ≡ laidOn (recordingOf (lines s)) words
   words-by q = q .lends-it ∙ rw (le-ltb (length words) mostWidths enough)
 
   fine : {l : Labels} {n : ℕ} → JudgePromise s words left (Good l n) → Fine s left l n
@@ -102,7 +102,7 @@ module _ (s words : List ℕ) (enough : mostWidths ≤ length words) {left : Lis
       go false e t = (ap (λ (x : Tale). x .line) t, eqb-false (firstBad (lines s)) 0 e)
 
   -- with enough words lent, judging is not turned away
-  pub not-few : {A : Type 0} {j : Judged} → j ≡ FewLentWords → JudgePromise s words left j → A
+  pub not-few : {A : Type 0} {j : JudgedInput} → j ≡ FewLentWords → JudgePromise s words left j → A
   not-few e q = absurd (go (eqb (firstBad (lines s)) 0) (judged-by (rw e at q)))
     where
       go : (b : Bool) → judgedTold FewLentWords ≡ verdictTells (verdictIf (lines s) b) → ⊥
@@ -127,7 +127,7 @@ module _ (s words : List ℕ) (enough : mostWidths ≤ length words) {left : Lis
     size : k ≡ length (deskOf s)
     size = omega (arith, x .ends)
 
-  module _ {j : Judged} {l : Labels} {n : ℕ} (e : j ≡ Good l n) (judged : JudgePromise s words left j) where
+  module _ {j : JudgedInput} {l : Labels} {n : ℕ} (e : j ≡ Good l n) (judged : JudgePromise s words left j) where
     q : JudgePromise s words left (Good l n)
     q = rw e at judged
 
@@ -155,7 +155,7 @@ module _ (s words : List ℕ) (enough : mostWidths ≤ length words) {left : Lis
         let y = rw text at x in
         promised h y (words-by q) (rw (f .none-bad, size h y (words-by q)))
 
-  module _ {j : Judged} {n : ℕ} (e : j ≡ Bad n) (judged : JudgePromise s words left j) where
+  module _ {j : JudgedInput} {n : ℕ} (e : j ≡ Bad n) (judged : JudgePromise s words left j) where
     b : JudgePromise s words left (Bad n)
     b = rw e at judged
 

@@ -11,7 +11,7 @@ ghost use Rattle.desk_report.specs.Laying.{Laid, Room};
 ghost use Rattle.desk_report.specs.Reporting.{customerIn, vehicleIn, Within};
 ghost use Rattle.desk_text.specs.Calls.{DeskPromise};
 use desk_text::Answered;
-use desk_text::Judged;
+use desk_text::JudgedInput;
 use desk_text::Labels;
 use fields::put;
 use fields::put_number;
@@ -51,14 +51,14 @@ pub fn desk(input: &[u8], words: &mut [u32], lent: &mut [u8]) -> Answered
     }
     let judged = desk_judge::judge(input, words);
     match judged {
-        Judged::Good { labels, widths } => {
+        JudgedInput::Good { labels, widths } => {
             let length = put_report(input, labels, &words[..widths], lent);
             Answered::Report { length }
         }
-        Judged::Bad { line } => {
+        JudgedInput::Bad { line } => {
             let length = put_refusal(line, lent);
             Answered::Refused { line, length }
         }
-        Judged::FewLentWords => Answered::FewLent,
+        JudgedInput::FewLentWords => Answered::FewLent,
     }
 }

@@ -20,7 +20,7 @@ use Rattle.frame.specs.Reading.{Good, Outcome, faultAt, frameAt, decided, readi
 use Rattle.frame.specs.ShownLaws.{end-passive}
 use Rattle.frame.specs.Answers.{faultNumber}
 use Rattle.frame.specs.Outcomes.{comes}
-use Rattle.frame.specs.ReadStated.{Opens, Comes, isPast, isShort, isQuiet, isOpened, AtFaultOf, wrongItself, bitForSof, sofAgain, byteSplit, bytesFew, checkWrong, eodAfter, pastLimit}
+use Rattle.frame.specs.ReadStated.{Opens, ReadCase, isPast, isShort, isQuiet, isOpened, AtFaultOf, wrongItself, bitForSof, sofAgain, byteSplit, bytesFew, checkWrong, eodAfter, pastLimit}
 use Rattle.frame.specs.Decided.{Decision, isUnfinished, isGood, isFaulty, decision}
 use Rattle.frame.specs.EachFault.{fault-said}
 use Rattle.frame.specs.Admitted.{admitted}
@@ -90,7 +90,7 @@ answer-is ws p h = go (reading ws p mostBytes) (comes mostBytes (single ws) p mo
         let n = named (symbolAt ws k) (fault-said mostBytes (stands (single ws) o k) (single ws .shows k) (faultAt mostBytes (single ws) o k) f .0 refl) in
         isFault (n .fault-is) (n .number-is) (op .from) (end-even ws o (op .end)) (c .later) (c .inside)
 
-    go : (x : Outcome) → Comes mostBytes (single ws) p mostBytes x → reading ws p mostBytes ≡ x → Answer ws p x
+    go : (x : Outcome) → ReadCase mostBytes (single ws) p mostBytes x → reading ws p mostBytes ≡ x → Answer ws p x
     go x (isPast a) e = absurd (omega arith)
     go x (isShort a b) e = absurd (omega arith)
     go x (isQuiet a b) e = isSilence

@@ -13,8 +13,8 @@ use borrow.Author.Tests.{lt-ltb, ltb-true, ltb-false, eqb-true, eqb-false}
 use Rattle.laws.specs.Settled.{settled}
 use Rattle.laws.specs.Rules.{TurnedAway}
 use Rattle.laws.specs.Tests.{never, or-right}
-use Rattle.desk_text.specs.declared.Judged.{Judged}
-use Rattle.desk_text.specs.declared.Judged.the-variants.{Good, Bad, FewLentWords}
+use Rattle.desk_text.specs.declared.JudgedInput.{JudgedInput}
+use Rattle.desk_text.specs.declared.JudgedInput.the-variants.{Good, Bad, FewLentWords}
 use Rattle.desk_text.specs.declared.Answered.{Answered}
 use Rattle.desk_text.specs.declared.Answered.the-variants.{Report, Refused, FewLent}
 use Rattle.desk_text.specs.Input.{lines, firstBad, mostWidths, customerOf, vehicleOf, recordingOf}
@@ -25,12 +25,12 @@ use Rattle.desk_text.specs.Stated.{Rules, Short}
 -- ## One answer
 
 -- the answer back from what is told of it
-abbrev judgedOf : Tale → Judged
+abbrev judgedOf : Tale → JudgedInput
 judgedOf t =
     cond (eqb (t .number) 0) (Good (record { customer = t .customer; vehicle = t .vehicle }) (t .widths))
     (cond (eqb (t .number) 62) (Bad (t .line)) FewLentWords)
 
-judged-back : (r : Judged) → judgedOf (judgedTold r) ≡ r
+judged-back : (r : JudgedInput) → judgedOf (judgedTold r) ≡ r
 judged-back (Good labels widths) = refl
 judged-back (Bad line) = refl
 judged-back FewLentWords = refl
@@ -45,7 +45,7 @@ answered-back (Refused line length) = refl
 answered-back FewLent = refl
 
 -- Two answers with the same number and values are the same answer.
-pub judged-once : (r s : Judged) → judgedTold r ≡ judgedTold s → r ≡ s
+pub judged-once : (r s : JudgedInput) → judgedTold r ≡ judgedTold s → r ≡ s
 judged-once r s e = sym (judged-back r) ∙ ap judgedOf e ∙ judged-back s
 
 -- the same for the desk's answers
@@ -53,7 +53,7 @@ pub answered-once : (r s : Answered) → answeredTold r ≡ answeredTold s → r
 answered-once r s e = sym (answered-back r) ∙ ap answeredOf e ∙ answered-back s
 
 -- No second answer, and no other state of the lent words, meets the promise of judging.
-pub judge-settled : {s entry exit exit' : List ℕ} {q r : Judged} → JudgePromise s entry exit q → JudgePromise s entry exit' r → (q ≡ r) × (exit ≡ exit')
+pub judge-settled : {s entry exit exit' : List ℕ} {q r : JudgedInput} → JudgePromise s entry exit q → JudgePromise s entry exit' r → (q ≡ r) × (exit ≡ exit')
 judge-settled {q} {r} a b = (judged-once q r (settled (a .tells-it) (b .tells-it)), settled (a .lends-it) (b .lends-it))
 
 -- No second answer, and no other state of the lent words and bytes, meets the promise of the desk.
@@ -106,7 +106,7 @@ judge-way s lent = go (ltb lent mostWidths) (eqb (firstBad (lines s)) 0) refl re
 
 -- Judging: 61 exactly where fewer than 16,384 words are lent, and then they are as they were; 62 exactly where enough are lent
 -- and some line is bad, and then the line told of is the first bad one; 0 exactly where enough are lent and no line is bad.
-module _ {s entry exit : List ℕ} {r : Judged} (q : JudgePromise s entry exit r) where
+module _ {s entry exit : List ℕ} {r : JudgedInput} (q : JudgePromise s entry exit r) where
   -- each number exactly when
   pub judge-exactly : Rules s (length entry < mostWidths) (judgedTold r .number) (judgedTold r .line)
   judge-exactly = rw (q .tells-it) (rules (judge-way s (length entry)))

@@ -7,8 +7,8 @@ use mathlib.Core.Bool.{Bool, true, false, cond, _||_}
 use mathlib.Core.List.{List, [], _++_}
 use lib.Dec.{eqb, ltb}
 use lib.ListN.{length, drop}
-use Rattle.desk_text.specs.declared.Judged.{Judged}
-use Rattle.desk_text.specs.declared.Judged.the-variants.{Good, Bad, FewLentWords}
+use Rattle.desk_text.specs.declared.JudgedInput.{JudgedInput}
+use Rattle.desk_text.specs.declared.JudgedInput.the-variants.{Good, Bad, FewLentWords}
 use Rattle.desk_text.specs.declared.Answered.{Answered}
 use Rattle.desk_text.specs.declared.Answered.the-variants.{Report, Refused, FewLent}
 use Rattle.desk_text.specs.Input.{Line, lines, firstBad, customerOf, vehicleOf, recordingOf, mostWidths}
@@ -17,21 +17,21 @@ use Rattle.desk_text.specs.Report.{deskOf}
 -- ## Judging
 
 -- an outcome of judging: a good input's labels and widths, by their lengths; the number of the first bad line; or too little lent
-pub data Verdict : Type 0 where
-  good : (customer vehicle widths : ℕ) → Verdict
-  bad : (line : ℕ) → Verdict
-  few : Verdict
+pub data Judgement : Type 0 where
+  good : (customer vehicle widths : ℕ) → Judgement
+  bad : (line : ℕ) → Judgement
+  few : Judgement
 
 -- what judging comes to, by the input's lines
-abbrev pub verdictBy : List Line → Verdict
-verdictBy ls =
+abbrev pub judgementBy : List Line → Judgement
+judgementBy ls =
     cond (eqb (firstBad ls) 0)
     (good (length (customerOf ls)) (length (vehicleOf ls)) (length (recordingOf ls)))
     (bad (firstBad ls))
 
 -- Judging the bytes s with so many words lent: 16,384 words are asked for, however few the input needs.
-unfoldable pub judging : List ℕ → ℕ → Verdict
-judging s lent = cond (ltb lent mostWidths) few (verdictBy (lines s))
+unfoldable pub judging : List ℕ → ℕ → Judgement
+judging s lent = cond (ltb lent mostWidths) few (judgementBy (lines s))
 
 -- the number and the values of an answer; a value that it does not have is 0
 pub record Tale : Type 0 where
@@ -42,14 +42,14 @@ pub record Tale : Type 0 where
   pub widths : ℕ
 
 -- the number and the values of each case of the answer to judging
-abbrev pub judgedTold : Judged → Tale
+abbrev pub judgedTold : JudgedInput → Tale
 judgedTold (Good labels widths) =
     record { number = 0; line = 0; customer = labels .customer; vehicle = labels .vehicle; widths = widths }
 judgedTold (Bad line) = record { number = 62; line = line; customer = 0; vehicle = 0; widths = 0 }
 judgedTold FewLentWords = record { number = 61; line = 0; customer = 0; vehicle = 0; widths = 0 }
 
 -- the number and the values of each outcome of judging
-abbrev pub verdictTells : Verdict → Tale
+abbrev pub verdictTells : Judgement → Tale
 verdictTells (good customer vehicle widths) = record { number = 0; line = 0; customer = customer; vehicle = vehicle; widths = widths }
 verdictTells (bad line) = record { number = 62; line = line; customer = 0; vehicle = 0; widths = 0 }
 verdictTells few = record { number = 61; line = 0; customer = 0; vehicle = 0; widths = 0 }
@@ -64,7 +64,7 @@ laidWords true s = []
 laidWords false s = recordingOf (lines s)
 
 -- The promise of judging the bytes s: the answer, and the lent words from entry to exit.
-pub record JudgePromise (s entry exit : List ℕ) (answer : Judged) : Type 0 where
+pub record JudgePromise (s entry exit : List ℕ) (answer : JudgedInput) : Type 0 where
   pub tells-it : judgedTold answer ≡ verdictTells (judging s (length entry))
   pub lends-it : exit ≡ laidOn (laidWords (ltb (length entry) mostWidths) s) entry
 

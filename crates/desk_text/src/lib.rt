@@ -15,7 +15,7 @@ pub struct Labels {
 
 // What judging an input answers: its labels and the number of its widths, which then stand first in the lent words; or the
 // number of its first bad line; or a refusal, which changes nothing.
-pub enum Judged {
+pub enum JudgedInput {
     Good { labels: Labels, widths: usize },
     Bad { line: usize },
     FewLentWords,

@@ -10,7 +10,7 @@ use Rattle.laws.specs.Tests.{never}
 use Rattle.frame.specs.Line.{Line, endAt, Found, nowhere, at, opening}
 use Rattle.frame.specs.Reading.{Outcome, quiet, decided, readBy, outcomeBy, readOn}
 use Rattle.frame.specs.FirstLaws.{first-at, at-first}
-use Rattle.frame.specs.ReadStated.{IsFirst, Opens, Comes, isPast, isShort, isQuiet, isOpened, goesOn}
+use Rattle.frame.specs.ReadStated.{IsFirst, Opens, ReadCase, isPast, isShort, isQuiet, isOpened, goesOn}
 
 module _ (limit : ℕ) (l : Line) (p lent : ℕ) where
   opening-opens : (o : ℕ) → opening l p ≡ at o → o + 1 < l .count → Opens l p o
@@ -20,21 +20,21 @@ module _ (limit : ℕ) (l : Line) (p lent : ℕ) where
       record { from = f .from; end = f .holds; none-before = f .none-earlier; followed = h }
 
   -- Every call comes to one of these.
-  pub comes : Comes limit l p lent (readOn limit l p lent)
+  pub comes : ReadCase limit l p lent (readOn limit l p lent)
   unfolding readOn
   comes = outer (ltb (l .count) p) (ltb lent limit) refl refl
     where
       followed : (o : ℕ) → p ≤ l .count → limit ≤ lent → opening l p ≡ at o → (b : Bool) → leb (l .count) (o + 1) ≡ b
-          → Comes limit l p lent (cond b (quiet p) (decided limit l o))
+          → ReadCase limit l p lent (cond b (quiet p) (decided limit l o))
       followed o a c e true q = isQuiet a c
       followed o a c e false q = isOpened a c (opening-opens o e (leb-false (l .count) (o + 1) q))
 
-      inner : (f : Found) → p ≤ l .count → limit ≤ lent → opening l p ≡ f → Comes limit l p lent (readBy f limit l p)
+      inner : (f : Found) → p ≤ l .count → limit ≤ lent → opening l p ≡ f → ReadCase limit l p lent (readBy f limit l p)
       inner nowhere a c e = isQuiet a c
       inner (at o) a c e = followed o a c e (leb (l .count) (o + 1)) refl
 
       outer : (b c : Bool) → ltb (l .count) p ≡ b → ltb lent limit ≡ c
-          → Comes limit l p lent (outcomeBy (cond b 31 (cond c 32 0)) (readBy (opening l p) limit l p))
+          → ReadCase limit l p lent (outcomeBy (cond b 31 (cond c 32 0)) (readBy (opening l p) limit l p))
       outer true c e d = isPast (ltb-true (l .count) p e)
       outer false true e d = isShort (ltb-false (l .count) p e) (ltb-true lent limit d)
       outer false false e d = inner (opening l p) (ltb-false (l .count) p e) (ltb-false lent limit d) refl
@@ -62,7 +62,7 @@ pub record OpenedBy (limit : ℕ) (l : Line) (p lent : ℕ) (x : Outcome) : Type
 pub opened-by : (limit : ℕ) (l : Line) (p lent : ℕ) (x : Outcome) → goesOn x ≡ true → readOn limit l p lent ≡ x → OpenedBy limit l p lent x
 opened-by limit l p lent x g e = go (readOn limit l p lent) (comes limit l p lent) e
   where
-    go : (y : Outcome) → Comes limit l p lent y → y ≡ x → OpenedBy limit l p lent x
+    go : (y : Outcome) → ReadCase limit l p lent y → y ≡ x → OpenedBy limit l p lent x
     go y (isPast h) e = never (rw (← e) at g) refl
     go y (isShort h fits) e = never (rw (← e) at g) refl
     go y (isQuiet h fits) e = never (rw (← e) at g) refl

@@ -8,7 +8,7 @@ use Rattle.laws.specs.Tests.{never}
 use Rattle.frame.specs.Line.{Line}
 use Rattle.frame.specs.Reading.{Outcome, good, quiet, unfinished, faulty, refused, decided, readOn}
 use Rattle.frame.specs.Decided.{Decision, isUnfinished, isGood, isFaulty, decision}
-use Rattle.frame.specs.ReadStated.{Undecided, Opens, Comes, isPast, isShort, isQuiet, isOpened, Silent, Unclosed}
+use Rattle.frame.specs.ReadStated.{Undecided, Opens, ReadCase, isPast, isShort, isQuiet, isOpened, Silent, Unclosed}
 use Rattle.frame.specs.Outcomes.{comes, opened-reading}
 
 -- the row of an outcome, where it is one of these two
@@ -47,13 +47,13 @@ quiet-exactly limit l p lent = (there (readOn limit l p lent) (comes limit l p l
           none-opens = λ o op. never-quiet limit l o p (decided limit l o) (decision limit l o) (sym (opened-reading limit l p lent o fits op) ∙ e);
         }
 
-    there : (x : Outcome) → Comes limit l p lent x → readOn limit l p lent ≡ x → readOn limit l p lent ≡ quiet p → Silent limit l p lent
+    there : (x : Outcome) → ReadCase limit l p lent x → readOn limit l p lent ≡ x → readOn limit l p lent ≡ quiet p → Silent limit l p lent
     there x (isPast h) q e = other-row x (quiet p) (sym q ∙ e) (λ z. omega arith)
     there x (isShort h fits) q e = other-row x (quiet p) (sym q ∙ e) (λ z. omega arith)
     there x (isQuiet h fits) q e = silent h fits e
     there x (isOpened h fits op) q e = silent h fits e
 
-    back : Silent limit l p lent → (x : Outcome) → Comes limit l p lent x → x ≡ quiet p
+    back : Silent limit l p lent → (x : Outcome) → ReadCase limit l p lent x → x ≡ quiet p
     back s x (isPast h) = absurd (omega (arith, s .inside))
     back s x (isShort h fits) = absurd (omega (arith, s .enough))
     back s x (isQuiet h fits) = refl
@@ -70,7 +70,7 @@ unfinished-exactly limit l p lent o = (λ e. there (readOn limit l p lent) (come
     unclosed o' fits op y (isGood k f h) e = other-row y (unfinished o) e (λ z. omega arith)
     unclosed o' fits op y (isFaulty k f) e = other-row y (unfinished o) e (λ z. omega arith)
 
-    there : (x : Outcome) → Comes limit l p lent x → x ≡ unfinished o → Unclosed limit l p lent o
+    there : (x : Outcome) → ReadCase limit l p lent x → x ≡ unfinished o → Unclosed limit l p lent o
     there x (isPast h) e = other-row x (unfinished o) e (λ z. omega arith)
     there x (isShort h fits) e = other-row x (unfinished o) e (λ z. omega arith)
     there x (isQuiet h fits) e = other-row x (unfinished o) e (λ z. omega arith)

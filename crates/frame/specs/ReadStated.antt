@@ -71,11 +71,11 @@ pub record Opens (l : Line) (p o : ℕ) : Type 0 where
   pub followed : o + 1 < l .count
 
 -- what a call comes to, with what has to be so of its arguments
-pub data Comes (limit : ℕ) (l : Line) (p lent : ℕ) : Outcome → Type 0 where
-  isPast : l .count < p → Comes limit l p lent (refused 31)
-  isShort : p ≤ l .count → lent < limit → Comes limit l p lent (refused 32)
-  isQuiet : p ≤ l .count → limit ≤ lent → Comes limit l p lent (quiet p)
-  isOpened : {o : ℕ} → p ≤ l .count → limit ≤ lent → Opens l p o → Comes limit l p lent (decided limit l o)
+pub data ReadCase (limit : ℕ) (l : Line) (p lent : ℕ) : Outcome → Type 0 where
+  isPast : l .count < p → ReadCase limit l p lent (refused 31)
+  isShort : p ≤ l .count → lent < limit → ReadCase limit l p lent (refused 32)
+  isQuiet : p ≤ l .count → limit ≤ lent → ReadCase limit l p lent (quiet p)
+  isOpened : {o : ℕ} → p ≤ l .count → limit ≤ lent → Opens l p o → ReadCase limit l p lent (decided limit l o)
 
 -- the answer is a frame or a fault, from whose next position one reads on
 abbrev pub goesOn : Outcome → Bool

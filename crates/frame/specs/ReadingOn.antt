@@ -15,7 +15,7 @@ use Rattle.frame.specs.Faults.{mostBytes}
 use Rattle.frame.specs.Answers.{tells}
 use Rattle.frame.specs.FirstLaws.{at-first}
 use Rattle.frame.specs.Decided.{Decision, isUnfinished, isGood, isFaulty, decision, good-at}
-use Rattle.frame.specs.ReadStated.{GoodAt, Comes, isPast, isShort, isQuiet, isOpened, goesOn}
+use Rattle.frame.specs.ReadStated.{GoodAt, ReadCase, isPast, isShort, isQuiet, isOpened, goesOn}
 use Rattle.frame.specs.Outcomes.{comes, OpenedBy, opened-by}
 
 -- ## Progress
@@ -134,7 +134,7 @@ stops limit l p lent h fits g = go (readOn limit l p lent) (comes limit l p lent
     by o x (isGood e f n) g = never refl g
     by o x (isFaulty e n) g = never refl g
 
-    go : (x : Outcome) → Comes limit l p lent x → goesOn x ≡ false → (tells x .number ≡ 1) ⊎ (tells x .number ≡ 2)
+    go : (x : Outcome) → ReadCase limit l p lent x → goesOn x ≡ false → (tells x .number ≡ 1) ⊎ (tells x .number ≡ 2)
     go x (isPast a) g = absurd (omega arith)
     go x (isShort a b) g = absurd (omega arith)
     go x (isQuiet a b) g = inl refl

@@ -28,7 +28,7 @@ use Rattle.frame.specs.Writing.{Sheet, words, writing, mostWords, respon
 use Rattle.frame.specs.Nominal.{withoutCheck, nominalIntervals, responseBare}
 use Rattle.frame.specs.Decided.{Decision, isUnfinished, isGood, isFaulty, decision}
 use Rattle.frame.specs.Outcomes.{comes}
-use Rattle.frame.specs.ReadStated.{Comes, isPast, isShort, isQuiet, isOpened}
+use Rattle.frame.specs.ReadStated.{ReadCase, isPast, isShort, isQuiet, isOpened}
 use Rattle.frame.specs.WriteSettled.{counted-once}
 use Rattle.frame.specs.WrittenBack.{reads-written}
 use Rattle.frame.specs.Again.{written-again, writes-again}
@@ -109,7 +109,7 @@ framed ws p lent lengths kind o k e = go (reading ws p lent) (comes mostBytes (s
         }
     by x q (isFaulty {k = j} u v) f d = zero-not (ap (λ t. t .number) d) v
 
-    go : (x : Outcome) → Comes mostBytes (single ws) p lent x → reading ws p lent ≡ x → told (Frame lengths kind o k) ≡ tells x → Read ws p lent lengths kind (o .0) (k .0)
+    go : (x : Outcome) → ReadCase mostBytes (single ws) p lent x → reading ws p lent ≡ x → told (Frame lengths kind o k) ≡ tells x → Read ws p lent lengths kind (o .0) (k .0)
     go x (isPast h) f d = zero-not (ap (λ t. t .number) d) (omega arith)
     go x (isShort h l) f d = zero-not (ap (λ t. t .number) d) (omega arith)
     go x (isQuiet h l) f d = zero-not (ap (λ t. t .number) d) (omega arith)

@@ -12,8 +12,8 @@ use Rattle.frame_machine.specs.declared.Phase.the-variants.{Main}
 use Rattle.frame_machine.specs.declared.Machine.{Machine}
 use Rattle.frame_machine.specs.declared.Stepped.{Stepped}
 use Rattle.frame_machine.specs.declared.Event.the-variants.{Going, Byte}
-use Rattle.frame_machine.specs.declared.shut.Asked.{Asked}
-use Rattle.frame_machine.specs.Steps.{faulty, closing, begun, pushOf, responseBegun, partOf, sofPhase, bitOf, sofOf, askedOf, eodOf, closeOf}
+use Rattle.frame_machine.specs.declared.shut.Needed.{Needed}
+use Rattle.frame_machine.specs.Steps.{faulty, closing, begun, pushOf, responseBegun, partOf, sofPhase, bitOf, sofOf, neededOf, eodOf, closeOf}
 
 -- The bytes of a part, counted without a sum that might not fit.
 pub few-short : (count began fewest : ℕ) → count < fewest → true ≡ ltb count (began + fewest)
@@ -56,12 +56,12 @@ module _ (m : Machine) (eod : Bool) where
   unfolding closeOf
   close-split h = rw (ne-eqb (m .partial) 1 h)
 
-  pub close-few : (a : Asked) (few : Bool) → a ≡ askedOf (m .phase) → m .partial ≡ 1 → few ≡ ltb (m .count) (m .began + a .fewest) → few ≡ true
+  pub close-few : (a : Needed) (few : Bool) → a ≡ neededOf (m .phase) → m .partial ≡ 1 → few ≡ ltb (m .count) (m .began + a .fewest) → few ≡ true
       → faulty m FewBytes ≡ closeOf m eod
   unfolding closeOf
   close-few a few e h f t = rw (eq-eqb (m .partial) 1 h, sym e, sym f, t)
 
-  pub close-judged : (a : Asked) (wrong k : Bool) → a ≡ askedOf (m .phase) → m .partial ≡ 1
+  pub close-judged : (a : Needed) (wrong k : Bool) → a ≡ neededOf (m .phase) → m .partial ≡ 1
       → (few : Bool) → few ≡ ltb (m .count) (m .began + a .fewest) → few ≡ false
       → wrong ≡ (a .checked && not (eqb (m .register) residue)) → wrong ≡ k → (d : Bool) → eod ≡ d
       → cond k (faulty m WrongCheck) (cond d (eodOf m) (closing m)) ≡ closeOf m eod

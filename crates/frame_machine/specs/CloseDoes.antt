@@ -19,7 +19,7 @@ use Rattle.frame.specs.Faults.{facts, partBytes, checksOut, whole, fault}
 use Rattle.frame.specs.StandingLaws.{counted-shut}
 use Rattle.frame.specs.Parts.{shutting, shut-fault}
 use Rattle.frame_machine.specs.declared.Stepped.{Stepped}
-use Rattle.frame_machine.specs.Steps.{faulty, closing, askedOf, eodOf, closeOf}
+use Rattle.frame_machine.specs.Steps.{faulty, closing, neededOf, eodOf, closeOf}
 use Rattle.frame_machine.specs.Holding.{phaseOf, earlier, soFar, holding}
 use Rattle.frame_machine.specs.HoldingLaws.{parts}
 use Rattle.frame_machine.specs.ResidueLaws.{checks-residue}
@@ -44,19 +44,19 @@ past a b k = go (ltb (length b) k) refl
     go true e = lt-ltb (length (a ++ b)) (length a + k) (rw (length-append a b) (omega (arith, ltb-true (length b) k e)))
     go false e = le-ltb (length (a ++ b)) (length a + k) (rw (length-append a b) (omega (arith, ltb-false (length b) k e)))
 
-fewest-of : (st : Standing) → askedOf (phaseOf st) .fewest ≡ facts st .fewest
+fewest-of : (st : Standing) → neededOf (phaseOf st) .fewest ≡ facts st .fewest
 fewest-of atSof = refl
 fewest-of (inMain m) = refl
 fewest-of (atNormalization m) = refl
 fewest-of (inResponse plain m r) = refl
 fewest-of (inResponse checked m r) = refl
 
-few-of : (st : Standing) → ltb (length (soFar st)) (length (earlier st) + askedOf (phaseOf st) .fewest) ≡ ltb (length (partBytes st)) (facts st .fewest)
+few-of : (st : Standing) → ltb (length (soFar st)) (length (earlier st) + neededOf (phaseOf st) .fewest) ≡ ltb (length (partBytes st)) (facts st .fewest)
 few-of st = rw (parts st, fewest-of st) (past (earlier st) (partBytes st) (facts st .fewest))
 
 -- the check byte is judged where there are bytes enough
 wrong-of : (st : Standing) → ltb (length (partBytes st)) (facts st .fewest) ≡ false
-    → (askedOf (phaseOf st) .checked && not (eqb (registerOf (partBytes st)) residue)) ≡ (facts st .hasCheck && not (checksOut (partBytes st)))
+    → (neededOf (phaseOf st) .checked && not (eqb (registerOf (partBytes st)) residue)) ≡ (facts st .hasCheck && not (checksOut (partBytes st)))
 wrong-of atSof h = refl
 wrong-of (inMain m) h = rw (checks-residue m (omega (arith, ltb-false (length (bytes m)) 2 h)))
 wrong-of (atNormalization m) h = refl
@@ -68,7 +68,7 @@ abbrev judged : Standing → Bool → Stepped
 judged st eod =
     cond (not (whole (facts st .part))) (faulty (holding st) SplitByte)
     (cond (ltb (length (partBytes st)) (facts st .fewest)) (faulty (holding st) FewBytes)
-    (cond (askedOf (phaseOf st) .checked && not (eqb (registerOf (partBytes st)) residue)) (faulty (holding st) WrongCheck)
+    (cond (neededOf (phaseOf st) .checked && not (eqb (registerOf (partBytes st)) residue)) (faulty (holding st) WrongCheck)
     (cond eod (eodOf (holding st)) (closing (holding st)))))
 
 close-judged : (st : Standing) (eod : Bool) → closeOf (holding st) eod ≡ judged st eod

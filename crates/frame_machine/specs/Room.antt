@@ -17,7 +17,7 @@ use Rattle.frame_machine.specs.declared.Machine.{Machine}
 use Rattle.frame_machine.specs.declared.Event.{Event}
 use Rattle.frame_machine.specs.declared.Event.the-variants.{Going, Byte, Closed, Faulty}
 use Rattle.frame_machine.specs.declared.Stepped.{Stepped}
-use Rattle.frame_machine.specs.Steps.{faulty, closing, begun, partOf, sofPhase, askedOf, eodIn, eodOf, closeOf, bitOf, sofOf, stepOf}
+use Rattle.frame_machine.specs.Steps.{faulty, closing, begun, partOf, sofPhase, neededOf, eodIn, eodOf, closeOf, bitOf, sofOf, stepOf}
 use Rattle.frame_machine.specs.BitDoes.{push-full}
 
 -- the event tells of a byte
@@ -49,8 +49,8 @@ module _ (limit : ℕ) (m : Machine) (full : limit ≤ m .count) where
   unfolding closeOf
   of-shut eod =
       either (not (eqb (m .partial) 1)) (faulty m SplitByte) _ refl
-      (either (ltb (m .count) (m .began + askedOf (m .phase) .fewest)) (faulty m FewBytes) _ refl
-      (either (askedOf (m .phase) .checked && not (eqb (m .register) residue)) (faulty m WrongCheck) _ refl
+      (either (ltb (m .count) (m .began + neededOf (m .phase) .fewest)) (faulty m FewBytes) _ refl
+      (either (neededOf (m .phase) .checked && not (eqb (m .register) residue)) (faulty m WrongCheck) _ refl
       (either eod (eodOf m) (closing m) (at-eod (m .phase) m) refl)))
 
   of-sign : (s : Sign) → tells (stepOf limit m s .event) ≡ false

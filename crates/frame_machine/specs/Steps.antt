@@ -16,7 +16,7 @@ use Rattle.frame_machine.specs.declared.Phase.the-variants.{Sof, Main, N
 use Rattle.frame_machine.specs.declared.Machine.{Machine}
 use Rattle.frame_machine.specs.declared.Event.the-variants.{Going, Byte, Closed, Faulty}
 use Rattle.frame_machine.specs.declared.Stepped.{Stepped}
-use Rattle.frame_machine.specs.declared.shut.Asked.{Asked}
+use Rattle.frame_machine.specs.declared.shut.Needed.{Needed}
 
 -- the machine before the SOF
 abbrev pub fresh : Machine
@@ -81,16 +81,16 @@ unfoldable pub sofOf : Machine → Stepped
 sofOf m = cond (sofPhase (m .phase)) (begun m Main) (faulty m LateSof)
 
 -- what is asked of a part at its EOD or end
-abbrev pub asking : ℕ → Bool → Asked
-asking fewest checked = record { fewest = fewest; checked = checked }
+abbrev pub needing : ℕ → Bool → Needed
+needing fewest checked = record { fewest = fewest; checked = checked }
 
 -- that of each part; nothing is asked where no EOD or end can stand
-abbrev pub askedOf : Phase → Asked
-askedOf Sof = asking 0 false
-askedOf Normalization = asking 0 false
-askedOf Main = asking 2 true
-askedOf Plain = asking 1 false
-askedOf Checked = asking 2 true
+abbrev pub neededOf : Phase → Needed
+neededOf Sof = needing 0 false
+neededOf Normalization = needing 0 false
+neededOf Main = needing 2 true
+neededOf Plain = needing 1 false
+neededOf Checked = needing 2 true
 
 -- an EOD that is not at fault itself: a response may follow the main part, and nothing follows a response
 abbrev pub eodIn : Phase → Machine → Stepped
@@ -108,8 +108,8 @@ eodOf m = eodIn (m .phase) m
 unfoldable pub closeOf : Machine → Bool → Stepped
 closeOf m eod =
     cond (not (eqb (m .partial) 1)) (faulty m SplitByte)
-    (cond (ltb (m .count) (m .began + askedOf (m .phase) .fewest)) (faulty m FewBytes)
-    (cond (askedOf (m .phase) .checked && not (eqb (m .register) residue)) (faulty m WrongCheck)
+    (cond (ltb (m .count) (m .began + neededOf (m .phase) .fewest)) (faulty m FewBytes)
+    (cond (neededOf (m .phase) .checked && not (eqb (m .register) residue)) (faulty m WrongCheck)
     (cond eod (eodOf m) (closing m))))
 
 -- what a symbol shows inside a frame

@@ -4,7 +4,7 @@ ghost use mathlib.Core.Bool.{_&&_, not};
 ghost use Prim.Native.Nat.{_+_};
 ghost use lib.Dec.{eqb, ltb};
 ghost use Rattle.checkbyte.specs.Register.{residue};
-ghost use Rattle.frame_machine.specs.Steps.{closing, asking, askedOf, eodOf, closeOf};
+ghost use Rattle.frame_machine.specs.Steps.{closing, needing, neededOf, eodOf, closeOf};
 use crate::Event;
 use crate::Machine;
 use crate::NO_BITS;
@@ -15,7 +15,7 @@ use crate::fail;
 use frame::Fault;
 
 // What is asked of a part at its EOD or end: how many bytes at least, and whether the last of them is a check byte.
-struct Asked {
+struct Needed {
     fewest: usize,
     checked: bool,
 }
@@ -38,23 +38,23 @@ fn close(machine: Machine) -> Stepped
 }
 
 // What is asked of a part.
-fn ask(fewest: usize, checked: bool) -> Asked
-    ensures { λ r. ⌜ r ≡ asking fewest checked ⌝ }
+fn need(fewest: usize, checked: bool) -> Needed
+    ensures { λ r. ⌜ r ≡ needing fewest checked ⌝ }
 {
-    Asked { fewest, checked }
+    Needed { fewest, checked }
 }
 
 // What is asked of the part that closes. The places of the SOF and of the normalization bit are active, where no EOD or
 // end can stand: nothing is asked there, here and below.
-fn asked_of(phase: Phase) -> Asked
-    ensures { λ r. ⌜ r ≡ askedOf phase ⌝ }
+fn needed_of(phase: Phase) -> Needed
+    ensures { λ r. ⌜ r ≡ neededOf phase ⌝ }
 {
     match phase {
-        Phase::Sof => ask(0, false),
-        Phase::Normalization => ask(0, false),
-        Phase::Main => ask(FEWEST_MAIN, true),
-        Phase::Plain => ask(FEWEST_PLAIN, false),
-        Phase::Checked => ask(FEWEST_CHECKED, true),
+        Phase::Sof => need(0, false),
+        Phase::Normalization => need(0, false),
+        Phase::Main => need(FEWEST_MAIN, true),
+        Phase::Plain => need(FEWEST_PLAIN, false),
+        Phase::Checked => need(FEWEST_CHECKED, true),
     }
 }
 
@@ -97,14 +97,14 @@ pub fn close_part(machine: Machine, eod: bool) -> Stepped
     ensures { λ r. ⌜ r ≡ closeOf machine eod ⌝ }
 {
     let phase = machine.phase;
-    let asked = asked_of(phase);
+    let needed = needed_of(phase);
     if machine.partial != NO_BITS {
         return fail(machine, Fault::SplitByte);
     }
-    if too_few(machine.count, machine.began, asked.fewest) {
+    if too_few(machine.count, machine.began, needed.fewest) {
         return fail(machine, Fault::FewBytes);
     }
-    if wrong_check(asked.checked, machine.register) {
+    if wrong_check(needed.checked, machine.register) {
         return fail(machine, Fault::WrongCheck);
     }
     if eod {

@@ -22,7 +22,7 @@ use Rattle.frame.specs.ReadBack.{wave-few, reads-wave}
 use Rattle.frame.specs.WrittenBack.{written-wave}
 use Rattle.frame.specs.ReadingOn.{nextOf, progress, ReadsOn, last, more, closing-opens}
 use Rattle.live.specs.Feeding.{started}
-use Rattle.live.specs.Shown.{Comes, recording, Enough, afterAll, showsAll, reads, showsAsked}
+use Rattle.live.specs.Shown.{Delivered, recording, Enough, afterAll, showsAll, reads, showsAsked}
 use Rattle.live.specs.Whole.{live-whole}
 
 module _ (ws main : List ℕ) (kind : Response) (rs : List ℕ) (wave : FrameWave main kind rs ws) (adm : badMessage main kind rs ≡ false) (mb : Bytes main) (rb : Bytes rs) where
@@ -53,15 +53,15 @@ module _ (ws main : List ℕ) (kind : Response) (rs : List ℕ) (wave : FrameWav
 
 -- The intervals of such a wave, heard by a started reader, show the message at its closing end, with its bytes, and asking then
 -- shows quiet.
-pub heard-wave : (is : List Comes) (main : List ℕ) (kind : Response) (rs : List ℕ) → Enough is → FrameWave main kind rs (recording is)
+pub heard-wave : (is : List Delivered) (main : List ℕ) (kind : Response) (rs : List ℕ) → Enough is → FrameWave main kind rs (recording is)
     → badMessage main kind rs ≡ false → Bytes main → Bytes rs
     → showsAll started is ++ (showsAsked (afterAll started is) ∷ [])
     ≡ (reads (good (frameSent main kind rs 0 (length (recording is) - 1))) ∷ reads (quiet (length (recording is) - 1)) ∷ [])
 heard-wave is main kind rs enough wave adm mb rb =
-    live-whole is enough (omega (arith, wave-few wave adm, length-map is (λ (c : Comes). c .width))) _ (reads-both (recording is) main kind rs wave adm mb rb)
+    live-whole is enough (omega (arith, wave-few wave adm, length-map is (λ (c : Delivered). c .width))) _ (reads-both (recording is) main kind rs wave adm mb rb)
 
 -- The same for what the writer writes, at every clock in the sending windows.
-pub heard-written : (c : Clock) (is : List Comes) (main : List ℕ) (kind : Response) (rs : List ℕ) → goodOf c ≡ true → badMessage main kind rs ≡ false
+pub heard-written : (c : Clock) (is : List Delivered) (main : List ℕ) (kind : Response) (rs : List ℕ) → goodOf c ≡ true → badMessage main kind rs ≡ false
     → Bytes main → Bytes rs → Enough is → recording is ≡ frameWords c main kind rs
     → showsAll started is ++ (showsAsked (afterAll started is) ∷ [])
     ≡ (reads (good (frameSent main kind rs 0 (length (recording is) - 1))) ∷ reads (quiet (length (recording is) - 1)) ∷ [])

@@ -24,8 +24,8 @@ use Rattle.live.specs.Answers.{toldBy}
 
 -- The frames and faults of a line, each read from the next position of the one before, the first from 0, as far as they are
 -- told; and the position from which reading goes on.
-abbrev pub Reached : Line → ℕ → List Outcome → Type 0
-Reached l p xs = Reaches (onLine mostBytes l mostBytes) 0 p xs
+abbrev pub ToldSoFar : Line → ℕ → List Outcome → Type 0
+ToldSoFar l p xs = Reaches (onLine mostBytes l mostBytes) 0 p xs
 
 -- n intervals have been heard: the next one's place is n, or there is no place more
 pub data Counts (n : ℕ) (p : Places) : Type 0 where
@@ -41,7 +41,7 @@ pub data Rest (l : Line) (p : Places) (i : Inside) : Type 0 where
 
 -- The reader has heard the line, and has told of the frames and faults xs.
 pub record Hears (l : Line) (xs : List Outcome) (v : Live) : Type 0 where
-  pub reached : Reached l (v .places .from) xs
+  pub reached : ToldSoFar l (v .places .from) xs
   pub counts : Counts (l .count) (v .places)
   pub rest : Rest l (v .places) (v .inside)
 

@@ -21,18 +21,18 @@ use Rattle.live.specs.Hearing.{Counts, room, all-heard, Hears, Takes, de
 use Rattle.live.specs.Heard.{starts, takes-it}
 use Rattle.live.specs.Refused.{refused-as, refused-leaves, hear-exactly}
 use Rattle.live.specs.Answers.{refusal, hearRules, saysFull}
-use Rattle.live.specs.Shown.{Comes, recording, Enough, none, also, afterOne, afterAll, showsAll, reads, showsAsked, Call, hearing, asking, afterCalls, isTaken, takenIn}
+use Rattle.live.specs.Shown.{Delivered, recording, Enough, none, also, afterOne, afterAll, showsAll, reads, showsAsked, LiveCall, hearing, asking, afterCalls, isTaken, takenIn}
 use Rattle.live.specs.Whole.{live-whole}
 
 -- An interval that is not refused had bytes enough.
-taken-enough : (v : Live) (i : Comes) → isTaken v i ≡ true → mostBytes ≤ length (i .lent)
+taken-enough : (v : Live) (i : Delivered) → isTaken v i ≡ true → mostBytes ≤ length (i .lent)
 taken-enough v i e =
     let rules = hearRules (saysFull v) (length (i .lent)) in
     let first : firstRule rules ≡ 0 = sym (refused-as v (i .width) (length (i .lent))) ∙ eqb-true (refusal (fedOf v (i .width) (length (i .lent)) .heard)) 0 e in
     let few : ¬ (length (i .lent) < mostBytes) = none-is rules refl .0 first .1 .0 in
     omega (arith, few)
 
-all-enough : (cs : List Call) (v : Live) → Enough (takenIn v cs)
+all-enough : (cs : List LiveCall) (v : Live) → Enough (takenIn v cs)
 all-enough [] v = none
 all-enough (asking ∷ cs) v = all-enough cs v
 all-enough (hearing i ∷ cs) v = go (isTaken v i) refl (all-enough cs (afterOne v i)) (all-enough cs v)
@@ -42,7 +42,7 @@ all-enough (hearing i ∷ cs) v = go (isTaken v i) refl (all-enough cs (afterOne
     go false e k l = l
 
 -- The reader after a history is the one after the intervals that were not refused.
-pub after-calls : (cs : List Call) (v : Live) → afterCalls v cs ≡ afterAll v (takenIn v cs)
+pub after-calls : (cs : List LiveCall) (v : Live) → afterCalls v cs ≡ afterAll v (takenIn v cs)
 after-calls [] v = refl
 after-calls (asking ∷ cs) v = after-calls cs v
 after-calls (hearing i ∷ cs) v = go (isTaken v i) refl (after-calls cs (afterOne v i)) (after-calls cs v)
@@ -53,7 +53,7 @@ after-calls (hearing i ∷ cs) v = go (isTaken v i) refl (after-calls cs (afterO
     go false e k l = ap (λ (u : Live). afterCalls u cs) (refused-leaves v (i .width) (i .lent) e .0) ∙ l
 
 -- No history has more intervals taken than there are places.
-few-taken : (cs : List Call) (done : List ℕ) (xs : List Outcome) (v : Live) → Hears (single done) xs v → length done + length (takenIn v cs) ≤ lastPlace + 1
+few-taken : (cs : List LiveCall) (done : List ℕ) (xs : List Outcome) (v : Live) → Hears (single done) xs v → length done + length (takenIn v cs) ≤ lastPlace + 1
 few-taken [] done xs v h = go (h .counts)
   where
     go : Counts (length done) (v .places) → length done + 0 ≤ lastPlace + 1
@@ -83,7 +83,7 @@ few-taken (hearing i ∷ cs) done xs v h =
 
 -- Whatever calls are made on a started reader: the intervals that were not refused show, and asking then shows, what reading
 -- them as one recording shows.
-pub calls-whole : (cs : List Call) (zs : List Outcome) → ReadsOn (recording (takenIn started cs)) mostBytes 0 zs
+pub calls-whole : (cs : List LiveCall) (zs : List Outcome) → ReadsOn (recording (takenIn started cs)) mostBytes 0 zs
     → showsAll started (takenIn started cs) ++ (showsAsked (afterCalls started cs) ∷ []) ≡ map reads zs
 calls-whole cs zs r =
     ap (λ (u : Live). showsAll started (takenIn started cs) ++ (showsAsked u ∷ [])) (after-calls cs started)

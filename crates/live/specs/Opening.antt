@@ -24,7 +24,7 @@ use Rattle.live.specs.declared.Places.{Places}
 use Rattle.live.specs.declared.Live.{Live}
 use Rattle.live.specs.Feeding.{phaseBy, heldBy, beginsAnew}
 use Rattle.live.specs.Held.{lastPlace, phaseNumber, insideOf, after}
-use Rattle.live.specs.Hearing.{Reached, Counts, room, all-heard, Rest, seeks, hears, Hears}
+use Rattle.live.specs.Hearing.{ToldSoFar, Counts, room, all-heard, Rest, seeks, hears, Hears}
 
 -- ## The machine
 
@@ -75,7 +75,7 @@ module _ (l : Line) (k : ℕ) (long : l .count ≡ k + 1) (v : Live) (at-k : v .
 
   -- A reader that then goes on from there has heard all of it.
   pub begins-hears : (xs : List Outcome) (from : ℕ) → k ≤ lastPlace → from ≤ k → firstIn (endAt l) from k ≡ nowhere → (b : Bool) → endAt l k ≡ b
-      → Reached l from xs → Hears l xs (beginsAnew v from b)
+      → ToldSoFar l from xs → Hears l xs (beginsAnew v from b)
   unfolding beginsAnew after
   begins-hears xs from fits h none true e r =
       record {

@@ -10,7 +10,7 @@ use Rattle.frame.specs.Answers.{Told, tells, written}
 use Rattle.live.specs.declared.Live.{Live}
 use Rattle.live.specs.Feeding.{fedOf, lentOf, askedOf, started}
 use Rattle.live.specs.Answers.{toldBy, askedTold, refusal}
-use Rattle.live.specs.Hearing.{Reached, Takes}
+use Rattle.live.specs.Hearing.{ToldSoFar, Takes}
 use Rattle.frame.specs.Line.{single}
 use mathlib.Core.Bool.{Bool, cond}
 use lib.Dec.{eqb}
@@ -18,18 +18,18 @@ use lib.Dec.{eqb}
 -- ## Intervals one after the other
 
 -- one interval as it comes: its width, and the bytes that are lent for it
-pub record Comes : Type 0 where
+pub record Delivered : Type 0 where
   pub width : ℕ
   pub lent : List ℕ
 
 -- the recording that intervals make up
-abbrev pub recording : List Comes → List ℕ
-recording is = map (λ (i : Comes). i .width) is
+abbrev pub recording : List Delivered → List ℕ
+recording is = map (λ (i : Delivered). i .width) is
 
 -- bytes enough are lent for each
-pub data Enough : List Comes → Type 0 where
+pub data Enough : List Delivered → Type 0 where
   none : Enough []
-  also : {i : Comes} {is : List Comes} → mostBytes ≤ length (i .lent) → Enough is → Enough (i ∷ is)
+  also : {i : Delivered} {is : List Delivered} → mostBytes ≤ length (i .lent) → Enough is → Enough (i ∷ is)
 
 -- an answer, and the bytes that it tells of
 pub record Shown : Type 0 where
@@ -37,11 +37,11 @@ pub record Shown : Type 0 where
   pub bytes : List ℕ
 
 -- the reader after an interval
-abbrev pub afterOne : Live → Comes → Live
+abbrev pub afterOne : Live → Delivered → Live
 afterOne v i = fedOf v (i .width) (length (i .lent)) .live
 
 -- after several, in turn
-abbrev pub afterAll : Live → List Comes → Live
+abbrev pub afterAll : Live → List Delivered → Live
 afterAll v [] = v
 afterAll v (i ∷ is) = afterAll (afterOne v i) is
 
@@ -50,11 +50,11 @@ abbrev pub shown : (exit : List ℕ) → Told → Shown
 shown exit t = record { told = t; bytes = take (t .mainLength + t .responseLength) exit }
 
 -- what an interval shows
-abbrev pub showsOne : Live → Comes → List Shown
+abbrev pub showsOne : Live → Delivered → List Shown
 showsOne v i = map (shown (lentOf v (i .width) (i .lent))) (toldBy (fedOf v (i .width) (length (i .lent)) .heard))
 
 -- what some show, one after the other
-abbrev pub showsAll : Live → List Comes → List Shown
+abbrev pub showsAll : Live → List Delivered → List Shown
 showsAll v [] = []
 showsAll v (i ∷ is) = showsOne v i ++ showsAll (afterOne v i) is
 
@@ -69,17 +69,17 @@ showsAsked v = record { told = askedTold (askedOf v); bytes = [] }
 -- ## Deliveries
 
 -- all intervals of some deliveries
-abbrev pub joined : List (List Comes) → List Comes
+abbrev pub joined : List (List Delivered) → List Delivered
 joined [] = []
 joined (d ∷ ds) = d ++ joined ds
 
 -- what deliveries show, one after the other
-abbrev pub showsIn : Live → List (List Comes) → List Shown
+abbrev pub showsIn : Live → List (List Delivered) → List Shown
 showsIn v [] = []
 showsIn v (d ∷ ds) = showsAll v d ++ showsIn (afterAll v d) ds
 
 -- the reader after them
-abbrev pub afterIn : Live → List (List Comes) → Live
+abbrev pub afterIn : Live → List (List Delivered) → Live
 afterIn v [] = v
 afterIn v (d ∷ ds) = afterIn (afterAll v d) ds
 
@@ -88,32 +88,32 @@ abbrev pub on : List ℕ → ℕ → List ℕ
 on ws w = ws ++ (w ∷ [])
 
 -- what a reader that has heard some intervals does with the next
-pub record Next (is : List Comes) (i : Comes) : Type 0 where
+pub record Next (is : List Delivered) (i : Delivered) : Type 0 where
   pub told-before : List Outcome
-  pub reached : Reached (single (recording is)) (afterAll started is .places .from) told-before
+  pub reached : ToldSoFar (single (recording is)) (afterAll started is .places .from) told-before
   pub takes : Takes (single (recording is)) (single (recording is ++ (i .width ∷ []))) told-before (i .lent) (lentOf (afterAll started is) (i .width) (i .lent)) (fedOf (afterAll started is) (i .width) (length (i .lent)))
 
 -- a call on a reader
-pub data Call : Type 0 where
-  hearing : Comes → Call
-  asking : Call
+pub data LiveCall : Type 0 where
+  hearing : Delivered → LiveCall
+  asking : LiveCall
 
 -- the reader after a call
-abbrev pub afterCall : Live → Call → Live
+abbrev pub afterCall : Live → LiveCall → Live
 afterCall v (hearing i) = afterOne v i
 afterCall v asking = v
 
 -- after several, in turn
-abbrev pub afterCalls : Live → List Call → Live
+abbrev pub afterCalls : Live → List LiveCall → Live
 afterCalls v [] = v
 afterCalls v (c ∷ cs) = afterCalls (afterCall v c) cs
 
 -- the interval is not refused
-abbrev pub isTaken : Live → Comes → Bool
+abbrev pub isTaken : Live → Delivered → Bool
 isTaken v i = eqb (refusal (fedOf v (i .width) (length (i .lent)) .heard)) 0
 
 -- the intervals of a history that are not refused
-abbrev pub takenIn : Live → List Call → List Comes
+abbrev pub takenIn : Live → List LiveCall → List Delivered
 takenIn v [] = []
 takenIn v (asking ∷ cs) = takenIn v cs
 takenIn v (hearing i ∷ cs) = cond (isTaken v i) (i ∷ takenIn (afterOne v i) cs) (takenIn v cs)

@@ -31,22 +31,22 @@ use Rattle.frame_machine.specs.Stated.{Kept, Keeping}
 use Rattle.live.specs.declared.Live.{Live}
 use Rattle.live.specs.Feeding.{heldBy, beginsAnew, goesOn as goesOnWith, fedBy, signAt, stepAt, endsAt, laidBy}
 use Rattle.live.specs.Held.{lastPlace, insideOf, after}
-use Rattle.live.specs.Hearing.{Reached, Counts, hears, Hears, Takes, decides-nothing, decides-one}
+use Rattle.live.specs.Hearing.{ToldSoFar, Counts, hears, Hears, Takes, decides-nothing, decides-one}
 use Rattle.live.specs.Opening.{held-inside, counts-on, begins-hears}
 
 -- the position from which reading goes on lies in the recording
-pub reached-in : (l : Line) {p : ℕ} {xs : List Outcome} → Reached l p xs → p ≤ l .count
+pub reached-in : (l : Line) {p : ℕ} {xs : List Outcome} → ToldSoFar l p xs → p ≤ l .count
 reached-in l none-yet = omega arith
 reached-in l (one-more {s = p} r g) = omega (arith, progress mostBytes l p mostBytes g .1)
 
 -- A line l and the line l' that one interval more makes of it.
 module _ (l l' : Line) (long : l' .count ≡ l .count + 1) (same : (j : ℕ) → j < l .count → l .shows j ≡ l' .shows j) where
   -- The frames and faults told so far stay.
-  pub reached-on : {p : ℕ} {xs : List Outcome} → Reached l p xs → Reached l' p xs
+  pub reached-on : {p : ℕ} {xs : List Outcome} → ToldSoFar l p xs → ToldSoFar l' p xs
   reached-on none-yet = none-yet
   reached-on (one-more {s = p} {xs} r g) =
       let e : readOn mostBytes l' p mostBytes ≡ readOn mostBytes l p mostBytes = reading-stays mostBytes l l' (omega (arith, long)) same p mostBytes g in
-      subst (λ (x : Outcome). Reached l' (nextOf x) (xs ++ (x ∷ []))) e (one-more (reached-on r) (rw e g))
+      subst (λ (x : Outcome). ToldSoFar l' (nextOf x) (xs ++ (x ∷ []))) e (one-more (reached-on r) (rw e g))
 
   -- What was no opening before the interval is none now.
   pub none-still : (from : ℕ) → opening l from ≡ nowhere → firstIn (endAt l') from (l .count) ≡ nowhere
@@ -56,7 +56,7 @@ module _ (l l' : Line) (long : l' .count ≡ l .count + 1) (same : (j : ℕ) →
 
 -- A reader that is hearing a frame, which opens at `o`, as the next interval comes.
 module _ (l l' : Line) (long : l' .count ≡ l .count + 1) (same : (j : ℕ) → j < l .count → l .shows j ≡ l' .shows j)
-    (v : Live) (xs : List Outcome) (was : Reached l (v .places .from) xs) (at-k : v .places .next ≡ l .count)
+    (v : Live) (xs : List Outcome) (was : ToldSoFar l (v .places .from) xs) (at-k : v .places .next ≡ l .count)
     (fits : l .count ≤ lastPlace) (m : Machine) (kept : List ℕ) (is : v .inside ≡ insideOf m kept)
     (opens : opening l (v .places .from) ≡ at (v .places .opening))
     (none : firstIn (decides mostBytes l (v .places .opening)) (v .places .opening + 1) (l .count) ≡ nowhere)
@@ -138,7 +138,7 @@ module _ (l l' : Line) (long : l' .count ≡ l .count + 1) (same : (j : ℕ) →
   ends-with x g n r b e =
       begins-hears l' k (long) v at-k (rw kept-is (before .keeps .room)) (xs ++ (x ∷ [])) (v .places .next) fits (omega (arith, at-k))
       (first-empty (endAt l') (v .places .next) k (omega (arith, at-k))) b e
-      (subst (λ (p : ℕ). Reached l' p (xs ++ (x ∷ []))) (n ∙ sym at-k) (subst (λ (y : Outcome). Reached l' (nextOf y) (xs ++ (y ∷ []))) r (one-more (reached-on l l' long same was) (rw r g))))
+      (subst (λ (p : ℕ). ToldSoFar l' p (xs ++ (x ∷ []))) (n ∙ sym at-k) (subst (λ (y : Outcome). ToldSoFar l' (nextOf y) (xs ++ (y ∷ []))) r (one-more (reached-on l l' long same was) (rw r g))))
 
   -- Each event of the machine does what Takes says.
   takes : (entry : List ℕ) (e : Event) (m' : Machine) (b : Bool) → endAt l' k ≡ b → SaysKept e (m .count) mostBytes l' o k m' kept

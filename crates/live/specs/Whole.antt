@@ -23,7 +23,7 @@ use Rattle.live.specs.Answers.{askedTold}
 use Rattle.live.specs.Hearing.{Hears, Takes, decides-nothing, decides-one}
 use Rattle.live.specs.Heard.{starts, takes-it}
 use Rattle.live.specs.Asking.{asks}
-use Rattle.live.specs.Shown.{Comes, recording, Enough, none, also, Shown, afterOne, afterAll, shown, showsOne, showsAll, reads, showsAsked, joined, showsIn, afterIn, Next}
+use Rattle.live.specs.Shown.{Delivered, recording, Enough, none, also, Shown, afterOne, afterAll, shown, showsOne, showsAll, reads, showsAsked, joined, showsIn, afterIn, Next}
 
 -- ## Intervals one after the other
 
@@ -38,14 +38,14 @@ stands-first (faulty n k) entry = refl
 stands-first (refused n) entry = refl
 
 -- what a reader shows over some intervals, by what it then knows
-pub record Shows (ws : List ℕ) (xs : List Outcome) (after : Live) (shows : List Shown) : Type 0 where
+pub record ShowsOver (ws : List ℕ) (xs : List Outcome) (after : Live) (shows : List Shown) : Type 0 where
   pub new : List Outcome
   pub knows : Hears (single ws) (xs ++ new) after
   pub says : shows ≡ map reads new
 
 -- Over any intervals a reader that has heard others goes on knowing what reading says of all of them.
-pub hears-all : (is : List Comes) → Enough is → (done : List ℕ) (xs : List Outcome) (v : Live) → Hears (single done) xs v → length done + length is ≤ lastPlace + 1
-    → Shows (done ++ recording is) xs (afterAll v is) (showsAll v is)
+pub hears-all : (is : List Delivered) → Enough is → (done : List ℕ) (xs : List Outcome) (v : Live) → Hears (single done) xs v → length done + length is ≤ lastPlace + 1
+    → ShowsOver (done ++ recording is) xs (afterAll v is) (showsAll v is)
 hears-all [] none done xs v h fits =
     record { new = []; knows = rw (append-nil done, append-nil xs) h; says = refl }
 hears-all (i ∷ is) (also few rest) done xs v h fits =
@@ -60,8 +60,8 @@ hears-all (i ∷ is) (also few rest) done xs v h fits =
 
     go : Takes (single done) (single (done ++ (i .width ∷ []))) xs (i .lent) (lentOf v (i .width) (i .lent)) (fedOf v (i .width) (length (i .lent)))
         → ((ys : List Outcome) → Hears (single (done ++ (i .width ∷ []))) ys (afterOne v i)
-        → Shows ((done ++ (i .width ∷ [])) ++ recording is) ys (afterAll (afterOne v i) is) (showsAll (afterOne v i) is))
-        → Shows (done ++ (i .width ∷ recording is)) xs (afterAll (afterOne v i) is) (showsOne v i ++ showsAll (afterOne v i) is)
+        → ShowsOver ((done ++ (i .width ∷ [])) ++ recording is) ys (afterAll (afterOne v i) is) (showsAll (afterOne v i) is))
+        → ShowsOver (done ++ (i .width ∷ recording is)) xs (afterAll (afterOne v i) is) (showsOne v i ++ showsAll (afterOne v i) is)
     go (decides-nothing t e k) on =
         let r = on xs k in
         record { new = r .new; knows = rw (← assoc) (r .knows); says = rw t (r .says) }
@@ -89,10 +89,10 @@ shows-end (refused n) t e g = rw e
 
 -- What a started reader shows at the intervals of a recording, and then when asked, is what reading on from 0 shows: the same
 -- frames and faults with the same places and bytes, in the same order, then quiet or unfinished.
-pub live-whole : (is : List Comes) → Enough is → length is ≤ lastPlace + 1 → (zs : List Outcome) → ReadsOn (recording is) mostBytes 0 zs
+pub live-whole : (is : List Delivered) → Enough is → length is ≤ lastPlace + 1 → (zs : List Outcome) → ReadsOn (recording is) mostBytes 0 zs
     → showsAll started is ++ (showsAsked (afterAll started is) ∷ []) ≡ map reads zs
 live-whole is enough fits zs r =
-    let t : Shows (recording is) [] (afterAll started is) (showsAll started is) = hears-all is enough [] [] started starts (omega (arith, fits)) in
+    let t : ShowsOver (recording is) [] (afterAll started is) (showsAll started is) = hears-all is enough [] [] started starts (omega (arith, fits)) in
     let rest : Outcome = reading (recording is) (afterAll started is .places .from) mostBytes in
     let a = asks (single (recording is)) (t .new) (afterAll started is) (t .knows) in
     let whole : ReadsOn (recording is) mostBytes 0 (t .new ++ (rest ∷ [])) = reads-through (t .knows .reached) (last (a .1)) in
@@ -102,28 +102,28 @@ live-whole is enough fits zs r =
 
 -- ## Deliveries
 
-shows-append : (v : Live) (a b : List Comes) → showsAll v (a ++ b) ≡ showsAll v a ++ showsAll (afterAll v a) b
+shows-append : (v : Live) (a b : List Delivered) → showsAll v (a ++ b) ≡ showsAll v a ++ showsAll (afterAll v a) b
 shows-append v [] b = refl
 shows-append v (i ∷ a) b =
     ap (λ (l : List Shown). showsOne v i ++ l) (shows-append (afterOne v i) a b)
     ∙ sym (append-assoc (showsOne v i) (showsAll (afterOne v i) a) (showsAll (afterAll (afterOne v i) a) b))
 
 -- However the intervals are cut into deliveries, they show the same.
-pub deliveries : (v : Live) (ds : List (List Comes)) → showsIn v ds ≡ showsAll v (joined ds)
+pub deliveries : (v : Live) (ds : List (List Delivered)) → showsIn v ds ≡ showsAll v (joined ds)
 deliveries v [] = refl
 deliveries v (d ∷ ds) =
     ap (λ (l : List Shown). showsAll v d ++ l) (deliveries (afterAll v d) ds) ∙ sym (shows-append v d (joined ds))
 
-after-append : (v : Live) (a b : List Comes) → afterAll v (a ++ b) ≡ afterAll (afterAll v a) b
+after-append : (v : Live) (a b : List Delivered) → afterAll v (a ++ b) ≡ afterAll (afterAll v a) b
 after-append v [] b = refl
 after-append v (i ∷ a) b = after-append (afterOne v i) a b
 
-after-deliveries : (v : Live) (ds : List (List Comes)) → afterIn v ds ≡ afterAll v (joined ds)
+after-deliveries : (v : Live) (ds : List (List Delivered)) → afterIn v ds ≡ afterAll v (joined ds)
 after-deliveries v [] = refl
 after-deliveries v (d ∷ ds) = after-deliveries (afterAll v d) ds ∙ sym (after-append v d (joined ds))
 
 -- Deliveries show what reading all their intervals as one recording shows.
-pub delivered-whole : (ds : List (List Comes)) → Enough (joined ds) → length (joined ds) ≤ lastPlace + 1 → (zs : List Outcome) → ReadsOn (recording (joined ds)) mostBytes 0 zs
+pub delivered-whole : (ds : List (List Delivered)) → Enough (joined ds) → length (joined ds) ≤ lastPlace + 1 → (zs : List Outcome) → ReadsOn (recording (joined ds)) mostBytes 0 zs
     → showsIn started ds ++ (showsAsked (afterIn started ds) ∷ []) ≡ map reads zs
 delivered-whole ds enough fits zs r = rw (deliveries started ds, after-deliveries started ds) (live-whole (joined ds) enough fits zs r)
 
@@ -131,11 +131,11 @@ delivered-whole ds enough fits zs r = rw (deliveries started ds, after-deliverie
 
 -- "An answer at the interval that decides it": a frame or a fault is told at its own place, and is the next that reading tells
 -- of the recording with that interval.
-pub told-at : (is : List Comes) → Enough is → length is ≤ lastPlace → (i : Comes) → mostBytes ≤ length (i .lent) → Next is i
+pub told-at : (is : List Delivered) → Enough is → length is ≤ lastPlace → (i : Delivered) → mostBytes ≤ length (i .lent) → Next is i
 told-at is enough fits i few =
-    let t : Shows (recording is) [] (afterAll started is) (showsAll started is) = hears-all is enough [] [] started starts (omega (arith, fits)) in
+    let t : ShowsOver (recording is) [] (afterAll started is) (showsAll started is) = hears-all is enough [] [] started starts (omega (arith, fits)) in
     record {
       told-before = t .new;
       reached = t .knows .reached;
-      takes = takes-it (recording is) (t .new) (afterAll started is) (t .knows) (i .width) (rw (length-map is (λ (c : Comes). c .width)) fits) (i .lent) few;
+      takes = takes-it (recording is) (t .new) (afterAll started is) (t .knows) (i .width) (rw (length-map is (λ (c : Delivered). c .width)) fits) (i .lent) few;
     }

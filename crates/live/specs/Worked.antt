@@ -12,10 +12,10 @@ use Rattle.frame.specs.WorkedReading.{ffff, ffffRead}
 use Rattle.frame_machine.specs.Steps.{pushOf, bitOf, sofOf, closeOf}
 use Rattle.live.specs.Feeding.{heldBy, started, beginsAnew, goesOn, takenOf, fedOf, lentOf, askedOf}
 use Rattle.live.specs.Held.{insideOf, outside, after}
-use Rattle.live.specs.Shown.{Comes, showsAll, afterAll, showsAsked, reads}
+use Rattle.live.specs.Shown.{Delivered, showsAll, afterAll, showsAsked, reads}
 
 -- its intervals, with twelve bytes of zeros lent for each
-abbrev pub heardFfff : List Comes
+abbrev pub heardFfff : List Delivered
 heardFfff = map (λ (w : ℕ). record { width = w; lent = replicate mostBytes 0 }) ffff
 
 -- The frame FF FF is told at its closing end, with its bytes; then the reader is quiet from there.

@@ -14,23 +14,23 @@ use borrow.Author.Tests.{eqb-true, ne-eqb}
 use Rattle.laws.specs.Rules.{firstRule, FirstToHold, NoneHolds, TurnedAway}
 use Rattle.laws.specs.RuleLaws.{first-is, none-is}
 use Rattle.volts.specs.Intervals.{intervalsOf}
-use Rattle.volts.specs.Tracing.{Outcome, wrote, turnedAway, numbered, rules, outcomeBy, outcome, wordsAfter, Promise}
+use Rattle.volts.specs.Tracing.{TraceOutcome, wrote, turnedAway, numbered, rules, outcomeBy, outcome, wordsAfter, Promise}
 use Rattle.volts.specs.declared.Gate.{Gate}
 use Rattle.volts.specs.declared.Traced.{Traced}
 use Rattle.volts.specs.declared.Traced.the-variants.{Intervals, TooManySamples, BadGate, TooFewWords, UnusableSample}
 
 -- what has to be so of a call for each outcome
-abbrev pub RuleOf : Gate → List Float → List ℕ → Outcome → Type 0
+abbrev pub RuleOf : Gate → List Float → List ℕ → TraceOutcome → Type 0
 RuleOf g s lent (wrote n) = NoneHolds (rules g s lent) × (n ≡ length (intervalsOf g s))
 RuleOf g s lent (turnedAway k) = FirstToHold k (rules g s lent)
 
 -- the number of an outcome; 0 where intervals are written
-abbrev refusedAs : Outcome → ℕ
+abbrev refusedAs : TraceOutcome → ℕ
 refusedAs (wrote n) = 0
 refusedAs (turnedAway k) = k
 
 -- the value of an outcome
-abbrev valueOf : Outcome → ℕ
+abbrev valueOf : TraceOutcome → ℕ
 valueOf (wrote n) = n
 valueOf (turnedAway k) = 0
 

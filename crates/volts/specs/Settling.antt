@@ -7,13 +7,13 @@ use Prim.Native.Nat.{ℕ}
 use lib.Dec.{eqb}
 use lib.Ieee.{Float}
 use Rattle.laws.specs.Settled as units
-use Rattle.volts.specs.Tracing.{Outcome, wrote, turnedAway, numbered, Promise}
+use Rattle.volts.specs.Tracing.{TraceOutcome, wrote, turnedAway, numbered, Promise}
 use Rattle.volts.specs.declared.Gate.{Gate}
 use Rattle.volts.specs.declared.Traced.{Traced}
 use Rattle.volts.specs.declared.Traced.the-variants.{Intervals, TooManySamples, BadGate, TooFewWords, UnusableSample}
 
 -- the case of the answer that a number of document 01 stands for; of a number that the call never gives, any will do
-abbrev caseOf : Outcome → Traced
+abbrev caseOf : TraceOutcome → Traced
 caseOf (wrote n) = Intervals n
 caseOf (turnedAway k) = cond (eqb k 33) TooManySamples (cond (eqb k 34) BadGate (cond (eqb k 32) TooFewWords UnusableSample))
 

@@ -18,12 +18,12 @@ use Rattle.volts.specs.declared.Traced.{Traced}
 use Rattle.volts.specs.declared.Traced.the-variants.{Intervals, TooManySamples, BadGate, TooFewWords, UnusableSample}
 
 -- what document 01 has a call say: how many intervals it wrote, or the number under which it is turned away
-pub data Outcome : Type 0 where
-  wrote : ℕ → Outcome
-  turnedAway : ℕ → Outcome
+pub data TraceOutcome : Type 0 where
+  wrote : ℕ → TraceOutcome
+  turnedAway : ℕ → TraceOutcome
 
 -- document 01's number and value of each case of the answer
-abbrev pub numbered : Traced → Outcome
+abbrev pub numbered : Traced → TraceOutcome
 numbered (Intervals n) = wrote n
 numbered TooManySamples = turnedAway 33
 numbered BadGate = turnedAway 34
@@ -61,15 +61,15 @@ rules g s lent =
 
 -- what a call says, of the number of the first rule that holds and of the number of intervals, which is the answer where none
 -- does
-abbrev pub outcomeBy : ℕ → ℕ → Outcome
+abbrev pub outcomeBy : ℕ → ℕ → TraceOutcome
 outcomeBy number n = cond (eqb number 0) (wrote n) (turnedAway number)
 
 -- the outcome of a call with this gate, these samples and these lent words
-unfoldable pub outcome : Gate → List Float → List ℕ → Outcome
+unfoldable pub outcome : Gate → List Float → List ℕ → TraceOutcome
 outcome g s lent = outcomeBy (firstRule (rules g s lent)) (length (intervalsOf g s))
 
 -- "The answer is their number; words past them are unchanged." A call that is turned away changes none.
-abbrev pub wordsAfter : Outcome → List ℕ → List ℕ → List ℕ
+abbrev pub wordsAfter : TraceOutcome → List ℕ → List ℕ → List ℕ
 wordsAfter (wrote n) intervals lent = intervals ++ drop n lent
 wordsAfter (turnedAway k) intervals lent = lent
 

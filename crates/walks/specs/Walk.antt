@@ -34,16 +34,16 @@ use denote.Triple.Statement.{Contract, Triple}
 use denote.Triple.Call.{calls-at}
 
 -- where the locals lie
-abbrev pub Places : List Local → Type 0
-Places [] = Unit {0}
-Places (l ∷ ls) = ℕ × Places ls
+abbrev pub LocalsAt : List Local → Type 0
+LocalsAt [] = Unit {0}
+LocalsAt (l ∷ ls) = ℕ × LocalsAt ls
 
 -- the type of a local
 abbrev typeOf : Local → Ty
 typeOf (local τ h) = τ
 
 -- the locals with their types, each where it lies
-abbrev pub envOf : (ls : List Local) → Places ls → List (Ty × ℕ)
+abbrev pub envOf : (ls : List Local) → LocalsAt ls → List (Ty × ℕ)
 envOf [] bs = []
 envOf (l ∷ ls) bs = (typeOf l, bs .0) ∷ envOf ls (bs .1)
 
@@ -80,7 +80,7 @@ module _ {M : Type 1} (𝓤 : URA M) (H : Heap 𝓤) (A : Atoms 𝓤) (W : Given
 
 module _ {M : Type 1} {𝓤 : URA M} {H : Heap 𝓤} {A : Atoms 𝓤} {K : Type 0} {W : Given 𝓤 H A} where
   -- the locals are allocated, and stand in the order of the source
-  pub allocs-all : K → (ls : List Local) {Γ : List (Item 𝓤)} {Kt : Env 𝓤 H → Goal 𝓤 H} → ((bs : Places ls) → Seq K W (Locals (envOf ls bs) [] Γ) (Kt (envOf ls bs))) → Seq K W Γ (allocs ls Kt)
+  pub allocs-all : K → (ls : List Local) {Γ : List (Item 𝓤)} {Kt : Env 𝓤 H → Goal 𝓤 H} → ((bs : LocalsAt ls) → Seq K W (Locals (envOf ls bs) [] Γ) (Kt (envOf ls bs))) → Seq K W Γ (allocs ls Kt)
   allocs-all t [] k = alloc0 t $ k tt
   allocs-all t (local τ h ∷ ls) {Γ} {Kt} k = alloc1 t (λ b. allocs-all t ls {Γ = ‵ (froom τ b 0) ∷ ‵ (fdies τ b) ∷ Γ} {Kt = λ E. Kt ((τ, b) ∷ E)} (λ bs.
       record { prf = via 𝓤 _ (forward 𝓤 H A W (envOf ls bs) (‵ (froom τ b 0)) (‵ (fdies τ b)) Γ) (k (b, bs) .prf) }))

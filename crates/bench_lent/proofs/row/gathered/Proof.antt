@@ -54,7 +54,7 @@ use Rattle.bench.proofs.Station.Laws as T′
 use Rattle.bench_row.specs.declared.Bench.{Bench}
 use Rattle.bench_row.specs.Benches.{benchOf}
 use Rattle.bench_lent.specs.Restoring.{gathered, gather-start, gather-more, gather-all, gather-length}
-use Rattle.walks.specs.Walk.{Places, envOf, allocs-all, frees-all, calls-plain, tests, upFrom, lies, Opened}
+use Rattle.walks.specs.Walk.{LocalsAt, envOf, allocs-all, frees-all, calls-plain, tests, upFrom, lies, Opened}
 use Rattle.bench_lent.proofs.Cells.{R32, av, into-row, out-of-row, typed32, scaled}
 use Rattle.bench_row.proofs.Bench as B
 use Rattle.bench_row.proofs.Bench.Laws as B′
@@ -188,7 +188,7 @@ module _ {M : Type 1} (𝓤 : URA M) (H : Heap 𝓤) (A : Atoms 𝓤) (W : Given
     abbrev Λ : Loops 𝓤 H
     Λ = 𝓣 .Λ
 
-    module _ (bs : Places mir.locals) (q′ : Share) where
+    module _ (bs : LocalsAt mir.locals) (q′ : Share) where
       abbrev E : Env 𝓤 H
       E = envOf mir.locals bs
 

@@ -52,7 +52,7 @@ use Rattle.bench.proofs.Station.Laws as T′
 use Rattle.bench_row.specs.declared.Bench.{Bench}
 use Rattle.loops.specs.Scan.{filled, fill-start, fill-ahead, fill-more, fill-length, fill-all}
 use Rattle.bench_lent.specs.Restoring.{putBack, put-length}
-use Rattle.walks.specs.Walk.{Places, envOf, Locals, allocs-all, frees-all, calls-plain, tests, upFrom, lies}
+use Rattle.walks.specs.Walk.{LocalsAt, envOf, Locals, allocs-all, frees-all, calls-plain, tests, upFrom, lies}
 use Rattle.bench_lent.proofs.Cells.{scaled}
 use Rattle.bench_row.proofs.Bench as B
 use Rattle.bench_row.proofs.Bench.Laws as B′
@@ -150,7 +150,7 @@ module _ {M : Type 1} (𝓤 : URA M) (H : Heap 𝓤) (A : Atoms 𝓤) (W : Given
     abbrev Λ : Loops 𝓤 H
     Λ = 𝓣 .Λ
 
-    module _ (bs : Places mir.locals) where
+    module _ (bs : LocalsAt mir.locals) where
       abbrev E : Env 𝓤 H
       E = envOf mir.locals bs
 
