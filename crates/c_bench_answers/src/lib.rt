@@ -32,7 +32,7 @@ pub struct RoundAnswer {
     pub number: u32,
     pub line_time: u32,
     pub words: usize,
-    pub verdicts: [Verdict; 32],
+    pub verdicts: [Verdict; MOST_STATIONS],
 }
 
 // Document 01's numbers for the refusals of a call on a row.
@@ -96,14 +96,14 @@ fn verdict_as(verdict: bench::Verdict) -> Verdict
 }
 
 // How each of the 32 places fared.
-fn verdicts_as(verdicts: [bench::Verdict; 32]) -> [Verdict; 32]
+fn verdicts_as(verdicts: [bench::Verdict; MOST_STATIONS]) -> [Verdict; MOST_STATIONS]
     ensures { λ r. ⌜ r ≡ map verdictAs verdicts ⌝ }
 {
     let idle = Verdict {
         fared: IDLE,
         bit: 0,
     };
-    let mut all: [Verdict; 32] = [idle; 32];
+    let mut all: [Verdict; MOST_STATIONS] = [idle; MOST_STATIONS];
     let mut i = 0;
     while i < MOST_STATIONS {
         let verdict = verdicts[i];
