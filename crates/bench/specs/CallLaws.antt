@@ -15,7 +15,7 @@ use Rattle.bench.specs.declared.Fared.the-variants.{Idle}
 use Rattle.bench.specs.Stations.{Bits, bitsSent, stored, empty, waitingAt}
 use Rattle.bench.specs.Order.{ahead, sameBits}
 use Rattle.bench.specs.OrderLaws.{equal-or-ahead, ahead-differs, same-refl, different-same}
-use Rattle.bench.specs.Contest.{emptied, afterFare, afterFares}
+use Rattle.bench.specs.Round.{emptied, afterFare, afterFares}
 use Rattle.bench.specs.Calls.{Call, load, withdraw, setClock, round, taken, loaded, clocked, done, after}
 use Rattle.bench.specs.Histories.{waiting}
 use Rattle.bench.specs.First.{none-ahead}

@@ -9,11 +9,10 @@ use lib.ListN.{length, drop, getD, set as put}
 use Rattle.laws.specs.Meant.{Test, either, set, unset, equals, below, atMost}
 use Rattle.laws.specs.Rules.{Rule, rule, firstRule}
 use Rattle.symbol.specs.declared.Clock.{Clock}
-use Rattle.symbol.specs.Clocks.{goodOf}
-use Rattle.frame.specs.Writing.{mostWords}
+use Rattle.frame.specs.Writing.{badClock, fewWords}
 use Rattle.bench.specs.declared.Station.{Station}
 use Rattle.bench.specs.Stations.{mostStations, mostStored, empty, sound, blank}
-use Rattle.bench.specs.Contest.{roundOf, emptied, afterFares}
+use Rattle.bench.specs.Round.{roundOf, emptied, afterFares}
 
 -- A call: at which place of the row, from 0 on, and with what. A round is lent words.
 pub data Call : Type 0 where
@@ -22,7 +21,7 @@ pub data Call : Type 0 where
   setClock : (place : ℕ) → Clock → Call
   round : (lent : List ℕ) → Call
 
--- ## The rules that turn a call away
+-- ## The rules that turn a call away; 36 and 32 are those of writing
 
 -- 38: "row of 0 or over 32 stations"
 abbrev pub rowSize : (count : ℕ) → Test
@@ -45,10 +44,6 @@ noStation count place = atMost count place
 abbrev pub badMessage : List ℕ → Test
 badMessage m = either (equals (length m) 0) (below mostStored (length m))
 
--- 36: "clock outside the sending windows"
-abbrev pub badClock : Clock → Test
-badClock c = unset (goodOf c)
-
 -- 41: "that station already holds a message"
 abbrev pub holding : Station → Test
 holding s = unset (empty s)
@@ -56,10 +51,6 @@ holding s = unset (empty s)
 -- 42: "nothing to withdraw"
 abbrev pub nothingToWithdraw : Station → Test
 nothingToWithdraw s = set (empty s)
-
--- 32: "lent words under 101"
-abbrev pub fewWords : (lent : ℕ) → Test
-fewWords lent = below lent mostWords
 
 -- no station of the row holds a message
 unfoldable pub allEmpty : List Station → Bool

@@ -14,7 +14,7 @@ use Rattle.bench.specs.OrderLaws.{irreflexive, equal-or-ahead, ahead-som
 use Rattle.bench.specs.Histories.{among, differentAhead}
 use Rattle.bench.specs.First.{none-ahead}
 use Rattle.bench.specs.RoundStated.{first}
-use Rattle.bench.specs.WaitStated.{without}
+use Rattle.bench.specs.WaitStated.{without, NoRepeat}
 
 -- ## Taking a message out
 
@@ -159,11 +159,6 @@ own-count m xs i e =
     )
 
 -- ## What is counted
-
--- no message stands in the list twice
-abbrev pub NoRepeat : List Bits → Type 0
-NoRepeat [] = Unit {0}
-NoRepeat (x ∷ xs) = (among x xs ≡ false) × NoRepeat xs
 
 all-counted : (m : Bits) (ds : List Bits) → NoRepeat ds → ((z : Bits) → among z ds ≡ true → ahead z m ≡ true) → differentAhead m ds ≡ length ds
 unfolding differentAhead among

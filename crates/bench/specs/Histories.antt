@@ -14,7 +14,7 @@ use Rattle.bench.specs.declared.RoundAnswer.{RoundAnswer}
 use Rattle.bench.specs.Stations.{Bits, bitsSent, waitingAt}
 use Rattle.bench.specs.Order.{ahead, sameBits}
 use Rattle.bench.specs.Calls.{Call, load, withdraw, setClock, round}
-use Rattle.bench.specs.Promises.{calledNumber, toldNumber, LoadPromise, WithdrawPromise, ClockPromise, RoundPromise}
+use Rattle.bench.specs.Promise.{calledNumber, toldNumber, LoadPromise, WithdrawPromise, ClockPromise, RoundPromise}
 
 -- ## A: "the different messages ahead of it when it was loaded"
 

@@ -1,10 +1,10 @@
 -- Definitions.
 pub mod Stations
 pub mod Order
+pub mod Course
 pub mod Round
-pub mod Contest
 pub mod Calls
-pub mod Promises
+pub mod Promise
 pub mod Histories
 pub mod Worked
 pub mod RoundStated
@@ -13,8 +13,8 @@ pub mod WaitStated
 pub mod OrderLaws
 pub mod LineLaws
 pub mod First
+pub mod CourseLaws
 pub mod RoundLaws
-pub mod ContestLaws
 pub mod RowLaws
 pub mod Difference
 pub mod Places
@@ -28,7 +28,9 @@ pub mod CallLaws
 pub mod Readable
 pub mod ThroughReads
 pub mod RowSettled
+pub mod RowExactlyWhen
 pub mod RoundSettled
+pub mod RoundExactlyWhen
 pub mod HistoryLaws
 pub mod Waiting
 pub mod WaitingEnds

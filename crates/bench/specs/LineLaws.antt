@@ -11,7 +11,7 @@ use Rattle.laws.specs.Tests.{upTo}
 use Rattle.symbol.specs.ClassLaws.{class-only}
 use Rattle.symbol.specs.Sending.{SendingWindow, bitSymbol}
 use Rattle.symbol.specs.SendingLaws.{sending-inside}
-use Rattle.bench.specs.Round.{Pulse, widthsOf, shortest, longest, lasts, onLine}
+use Rattle.bench.specs.Course.{Pulse, widthsOf, shortest, longest, lasts, onLine}
 use Rattle.bench.specs.RoundStated.{OneOf, InWindows, onlyOnes}
 
 -- ## The shortest and the longest

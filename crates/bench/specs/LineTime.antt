@@ -9,10 +9,10 @@ use native.Mathlib.Omega.{arith}
 use lib.ListN.{length, take, drop, length-append, length-drop}
 use lib.Seq.{take-append-seam}
 use Rattle.bench.specs.declared.Station.{Station}
-use Rattle.bench.specs.Contest.{roundOf}
+use Rattle.bench.specs.Round.{roundOf}
 use Rattle.bench.specs.Calls.{round, taken, lentAfter}
 use Rattle.bench.specs.RoundStated.{Carried, winnerOf, OnTheLine}
-use Rattle.bench.specs.ContestLaws.{carried-length}
+use Rattle.bench.specs.RoundLaws.{carried-length}
 use Rattle.bench.specs.RowLaws.{goes-first, row-comes}
 use Rattle.bench.specs.Taken.{round-taken}
 use Rattle.bench.specs.Fates.{winner-some}

@@ -24,7 +24,7 @@ use Rattle.frame.specs.Admitted.{admitted}
 use Rattle.frame.specs.ReadBack.{reads-wave}
 use Rattle.bench.specs.declared.Station.{Station}
 use Rattle.bench.specs.Stations.{mostStored, Bits, bitsSent}
-use Rattle.bench.specs.Contest.{roundOf}
+use Rattle.bench.specs.Round.{roundOf}
 use Rattle.bench.specs.Calls.{round, taken, lentAfter}
 use Rattle.bench.specs.RoundStated.{Carried, none, next, winnerOf, OnTheLine}
 use Rattle.bench.specs.LineTime.{on-the-line}

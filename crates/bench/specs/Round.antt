@@ -1,110 +1,104 @@
 -- Definitions.
--- A round, bit by bit, as document 01 tells it in "Writing and the bench": who asks for what, what the line does, who stops.
--- Each pulse has a width of its own, so that nothing here speaks of clocks.
-use Prim.Native.Nat.{ℕ, zero, suc, min, max}
-use mathlib.Core.Bool.{Bool, true, false, cond, not, Bool·beq}
+-- A round on a row of stations: what each brings to it, and the words, the verdicts and the line time that come of it.
+use Prim.Native.Nat.{ℕ, _+_, _-_}
+use mathlib.Core.Bool.{Bool, false, cond, not}
 use mathlib.Core.List.{List, [], _∷_, _++_, map}
-use Rattle.symbol.specs.declared.Symbol.the-variants.{Bit1}
-use Rattle.symbol.specs.Classes.{classOf}
-use Rattle.frame.specs.Line.{is}
+use lib.ListN.{length, replicate}
+use Rattle.symbol.specs.declared.Clock.{Clock}
+use Rattle.symbol.specs.Sending.{bitWidth, endWidth}
+use Rattle.bench.specs.declared.Station.{Station}
 use Rattle.bench.specs.declared.Fared.{Fared}
-use Rattle.bench.specs.declared.Fared.the-variants.{Through, Lost}
+use Rattle.bench.specs.declared.Fared.the-variants.{Idle, Through, Lost}
+use Rattle.bench.specs.declared.Verdict.{Verdict}
+use Rattle.bench.specs.Stations.{mostStations, Bits, bitsSent, stored, empty}
+use Rattle.bench.specs.Course.{Pulse, Seat, out, on, longest, Course, mostBits, play, faredAt}
 
--- A bit that a station has to send, and the width that it asks for.
-pub record Pulse : Type 0 where
-  pub bit : Bool
-  pub width : ℕ
+-- ## What a station brings
 
--- A place in a round: out of it, as it fared; or remaining, with the pulses that it still has to send.
-pub data Seat : Type 0 where
-  out : Fared → Seat
-  on : List Pulse → Seat
+-- An empty station takes no part. A holder asks for a SOF, and for a pulse for each of its bits.
+pub data Entry : Type 0 where
+  absent : Entry
+  enters : (sof : ℕ) → (pulses : List Pulse) → Entry
 
--- ## Who asks for what
+-- the bits at the widths of a clock, from a level on: the level turns at each
+unfoldable pub pulsesOf : Clock → Bool → Bits → List Pulse
+pulsesOf c active [] = []
+pulsesOf c active (b ∷ bits) = record { bit = b; width = bitWidth c active b .0 } ∷ pulsesOf c (not active) bits
 
--- "A station that has sent its check byte asks for nothing"; nor does one that is out.
-abbrev pub asks : Seat → List Pulse
-asks (out f) = []
-asks (on []) = []
-asks (on (p ∷ ps)) = p ∷ []
+-- a holder's entry: after the SOF, which is active, the first bit is passive
+abbrev pub holder : Clock → List ℕ → Entry
+holder c m = enters (c .sof .0) (pulsesOf c false (bitsSent m))
 
--- what is asked for at this bit
-unfoldable pub asked : List Seat → List Pulse
-asked [] = []
-asked (s ∷ seats) = asks s ++ asked seats
+-- what a station brings to a round
+abbrev pub entryOf : Station → Entry
+entryOf s = cond (empty s) absent (holder (s .clock) (stored s))
 
--- the widths alone
-abbrev pub widthsOf : List Pulse → List ℕ
-widthsOf ps = map (λ (p : Pulse). p .width) ps
+-- ## The round
 
--- ## What the line does
+-- "In a round all holders begin the SOF together."
+abbrev pub sofAsks : Entry → List ℕ
+sofAsks absent = []
+sofAsks (enters sof pulses) = sof ∷ []
 
--- The shortest of widths: somebody asks for it and nobody asks for less (`shortest-asked`, `shortest-least`). Where nobody
--- asks there is none; the 0 stands for it and is never on the line.
-unfoldable pub shortest : List ℕ → ℕ
-shortest [] = 0
-shortest (w ∷ []) = w
-shortest (w ∷ v ∷ ws) = min w (shortest (v ∷ ws))
+-- the SOF that each holder asks for
+unfoldable pub sofsAsked : List Entry → List ℕ
+sofsAsked [] = []
+sofsAsked (e ∷ entries) = sofAsks e ++ sofsAsked entries
 
--- The longest of widths: somebody asks for it and nobody asks for more (`longest-asked`, `longest-most`). Where nobody asks
--- there is none; the 0 stands for it and is never on the line.
-unfoldable pub longest : List ℕ → ℕ
-longest [] = 0
-longest (w ∷ ws) = max w (longest ws)
+-- the places as the first bit begins
+abbrev pub seatOf : Entry → Seat
+seatOf absent = out Idle
+seatOf (enters sof pulses) = on pulses
 
--- "A passive bit lasts as long as the shortest any remaining station asks for; an active bit .., the longest."
-abbrev pub lasts : Bool → List ℕ → ℕ
-lasts false ws = shortest ws
-lasts true ws = longest ws
+-- all widths together
+unfoldable pub sumOf : List ℕ → ℕ
+sumOf [] = 0
+sumOf (w ∷ ws) = w + sumOf ws
 
--- the bit on the line: the one that the table of symbols gives to its width, at its level
-unfoldable pub onLine : Bool → ℕ → Bool
-onLine active w = is Bit1 (classOf active w)
+-- What comes of a round: its words, how each place of the row fared, and the line time.
+pub record Round : Type 0 where
+  pub words : List ℕ
+  pub fares : List Fared
+  pub lineTime : ℕ
 
--- ## Who stops
+-- "Opening and closing are 300"; line time is "all intervals but the closing 300".
+abbrev pub told : ℕ → Course → Round
+told sof c = record {
+  words = endWidth .0 ∷ sof ∷ (c .widths ++ (endWidth .0 ∷ []));
+  fares = map faredAt (c .seats);
+  lineTime = sumOf (endWidth .0 ∷ sof ∷ c .widths);
+}
 
--- What a place is after bit k, when b was on the line. "A station whose bit isn't the bit on the line stops at once and
--- loses at that bit"; of one that has sent its check byte, "if others go on, it loses at the next bit".
-abbrev pub heard : ℕ → Bool → Seat → Seat
-heard k b (out f) = out f
-heard k b (on []) = out (Lost k)
-heard k b (on (p ∷ ps)) = cond (Bool·beq (p .bit) b) (on ps) (out (Lost k))
+-- The SOF lasts as long as "the longest" that a holder asks for. Bits are "counted from 1 after the SOF".
+unfoldable pub roundAmong : List Entry → Round
+roundAmong entries = told (longest (sofsAsked entries)) (play mostBits false 1 (map seatOf entries))
 
--- ## The bits of a round
+-- the round on a row of stations
+unfoldable pub roundOf : List Station → Round
+roundOf row = roundAmong (map entryOf row)
 
--- How the bits of a round went: the width of each on the line, and the places in the end.
-pub record Course : Type 0 where
-  pub widths : List ℕ
-  pub seats : List Seat
+-- ## The verdicts, and the row afterwards
 
--- no bit more
-abbrev pub over : List Seat → Course
-over seats = record { widths = []; seats = seats }
+-- a verdict that says how a place fared
+abbrev pub verdictOf : Fared → Verdict
+verdictOf f = record { fared = f }
 
--- a bit of width w, and what comes after it
-abbrev pub bitThen : ℕ → Course → Course
-bitThen w c = record { widths = w ∷ c .widths; seats = c .seats }
+-- "for each of 32 places (idle past the row)"
+abbrev pub verdictsOf : List Fared → List Verdict
+verdictsOf fares = map verdictOf fares ++ replicate (mostStations - length fares) (verdictOf Idle)
 
--- every remaining station has sent its check byte
-abbrev pub nobodyAsks : List Pulse → Bool
-nobodyAsks [] = true
-nobodyAsks (p ∷ ps) = false
+-- an empty station keeps its clock and its bytes: the length alone is 0
+abbrev pub emptied : Station → Station
+emptied s = record { clock = s .clock; bytes = s .bytes; len = 0 }
 
--- a message has at most 12 bytes with its check byte, and so at most these bits
-abbrev pub mostBits : ℕ
-mostBits = 96
+-- "Holders that got through become empty, length 0; every other field stays."
+abbrev pub afterFare : Fared → Station → Station
+afterFare Idle s = s
+afterFare Through s = emptied s
+afterFare (Lost k) s = s
 
--- The bits from bit k on. "The round is over when every remaining station has sent its check byte", which is when nobody
--- asks. The first number only bounds how many bits are told, as a recursion must have it: `row-finishes` shows that with 96
--- every round of sound stations is over.
-unfoldable pub play : ℕ → Bool → ℕ → List Seat → Course
-play zero active k seats = over seats
-play (suc n) active k seats =
-    let w : ℕ = lasts active (widthsOf (asked seats)) in
-    cond (nobodyAsks (asked seats)) (over seats)
-    (bitThen w (play n (not active) (suc k) (map (heard k (onLine active w)) seats)))
-
--- How a place fared in the end: who remains has sent its message whole.
-abbrev pub faredAt : Seat → Fared
-faredAt (out f) = f
-faredAt (on ps) = Through
+-- the row after a round, station for station
+unfoldable pub afterFares : List Fared → List Station → List Station
+afterFares [] row = row
+afterFares (f ∷ fares) [] = []
+afterFares (f ∷ fares) (s ∷ row) = afterFare f s ∷ afterFares fares row

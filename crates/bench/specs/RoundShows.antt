@@ -13,14 +13,14 @@ use Rattle.bench.specs.declared.Fared.the-variants.{Idle, Through, Lost}
 use Rattle.bench.specs.declared.Verdict.{Verdict}
 use Rattle.bench.specs.declared.RoundAnswer.{RoundAnswer}
 use Rattle.bench.specs.Stations.{blank}
-use Rattle.bench.specs.Contest.{roundOf, verdictOf, afterFare, afterFares}
+use Rattle.bench.specs.Round.{roundOf, verdictOf, afterFare, afterFares}
 use Rattle.bench.specs.Calls.{round, numberOf, taken, done, after}
-use Rattle.bench.specs.Promises.{toldNumber, RoundSaid, said, played, roundSays, RoundPromise}
+use Rattle.bench.specs.Promise.{toldNumber, RoundSaid, said, played, roundSays, RoundPromise}
 use Rattle.bench.specs.RoundStated.{stationAt, fareAt, toldFare, RoundShown}
 use Rattle.bench.specs.Winner.{wins, loses, verdict-at, verdicts-32}
 use Rattle.bench.specs.LineTime.{on-the-line, words-first}
 use Rattle.bench.specs.RowShows.{same-length}
-use Rattle.bench.specs.RoundSettled.{says-number}
+use Rattle.bench.specs.RoundExactlyWhen.{says-number}
 
 none-fares : (f : Fared) → blank ≡ afterFare f blank
 none-fares Idle = refl

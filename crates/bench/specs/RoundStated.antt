@@ -15,11 +15,11 @@ use Rattle.bench.specs.declared.Fared.the-variants.{Through, Lost, Idle}
 use Rattle.bench.specs.declared.RoundAnswer.{RoundAnswer}
 use Rattle.bench.specs.declared.Station.{Station}
 use Rattle.bench.specs.Calls.{allSound}
-use Rattle.bench.specs.Contest.{Entry, absent, enters, seatOf, Round, sumOf, roundOf, verdictOf, afterFare}
+use Rattle.bench.specs.Round.{Entry, absent, enters, seatOf, Round, sumOf, roundOf, verdictOf, afterFare}
 use Rattle.bench.specs.Histories.{waiting}
 use Rattle.bench.specs.Order.{ahead, Ahead}
-use Rattle.bench.specs.Promises.{said, turnedAway}
-use Rattle.bench.specs.Round.{Pulse, Seat, out, on, Course, faredAt, asked, mostBits}
+use Rattle.bench.specs.Promise.{said, turnedAway}
+use Rattle.bench.specs.Course.{Pulse, Seat, out, on, Course, faredAt, asked, mostBits}
 use Rattle.bench.specs.Stations.{Bits, blank, mostStations, empty, waitingAt, mostStored}
 
 -- the width w is one of those asked for

@@ -4,7 +4,7 @@ use Prim.Native.Nat.{ℕ, _≤_}
 use mathlib.Core.Path.{_≡_, refl, sym, ap, ap₂, _∙_}
 use mathlib.Core.Logic.{_≢_}
 use mathlib.Core.Bool.{Bool, true, false, cond, not}
-use mathlib.Core.List.{List, [], _∷_, map, nil≢cons}
+use mathlib.Core.List.{List, [], _∷_, _++_, map, nil≢cons}
 use native.Mathlib.Omega.{arith}
 use lib.Dec.{leb}
 use lib.ListN.{length, length-take}
@@ -14,21 +14,20 @@ use Rattle.symbol.specs.declared.Clock.{Clock}
 use Rattle.symbol.specs.Clocks.{goodOf, Good}
 use Rattle.symbol.specs.Sending.{SendingWindow, bitWidth, bitSymbol}
 use Rattle.symbol.specs.SendingLaws.{good}
-use Rattle.checkbyte.specs.Register.{withCheck}
-use Rattle.frame.specs.Bits.{bitsOf}
-use Rattle.frame.specs.ByteLaws.{bits-length}
+use Rattle.checkbyte.specs.Register.{checkOf, withCheck}
+use Rattle.frame.specs.ByteLaws.{bits-length, bits-cons}
 use Rattle.frame.specs.WidthLaws.{with-check-length}
 use Rattle.bench.specs.declared.Station.{Station}
 use Rattle.bench.specs.declared.Fared.{Fared}
 use Rattle.bench.specs.declared.Fared.the-variants.{Idle}
 use Rattle.bench.specs.Stations.{mostStored, Bits, bitsSent, stored, empty, waitingAt, sound}
-use Rattle.bench.specs.Round.{mostBits, asked, play}
-use Rattle.bench.specs.Contest.{absent, pulsesOf, holder, entryOf, seatOf, roundOf}
+use Rattle.bench.specs.Course.{mostBits, asked, play}
+use Rattle.bench.specs.Round.{absent, pulsesOf, holder, entryOf, seatOf, roundOf}
 use Rattle.bench.specs.Calls.{allSound}
 use Rattle.bench.specs.Histories.{waiting}
 use Rattle.bench.specs.RoundStated.{first, bitsIn, bitsAt, Fair, against, fareOf, EntryInWindows, EntriesInWindows, goesOut, RoundCase, winnerOf}
-use Rattle.bench.specs.RoundLaws.{plays-out}
-use Rattle.bench.specs.ContestLaws.{all-fair, goes-short, comes}
+use Rattle.bench.specs.CourseLaws.{plays-out}
+use Rattle.bench.specs.RoundLaws.{all-fair, goes-short, comes}
 
 -- ## A message's bits
 
@@ -38,9 +37,8 @@ sent-short m h = omega (arith, bits-length (withCheck m), with-check-length m)
 
 -- Every message has bits to send, if only those of its check byte.
 pub sent-some : (m : List ℕ) → bitsSent m ≢ []
-unfolding bitsOf
-sent-some [] e = nil≢cons (sym e)
-sent-some (b ∷ m) e = nil≢cons (sym e)
+sent-some [] e = nil≢cons (sym e ∙ bits-cons (checkOf []) [])
+sent-some (b ∷ m) e = nil≢cons (sym e ∙ bits-cons b (m ++ (checkOf (b ∷ m) ∷ [])))
 
 -- ## Clocks
 

@@ -17,9 +17,9 @@ use Rattle.bench.specs.declared.Fared.{Fared}
 use Rattle.bench.specs.declared.Fared.the-variants.{Idle, Through, Lost}
 use Rattle.bench.specs.declared.Called.{Called}
 use Rattle.bench.specs.Stations.{mostStored, sound, blank}
-use Rattle.bench.specs.Contest.{roundOf, emptied, afterFare, afterFares}
+use Rattle.bench.specs.Round.{roundOf, emptied, afterFare, afterFares}
 use Rattle.bench.specs.Calls.{Call, load, withdraw, setClock, round, allSound, numberOf, taken, loaded, clocked, done, after}
-use Rattle.bench.specs.Promises.{LoadPromise, WithdrawPromise, ClockPromise}
+use Rattle.bench.specs.Promise.{LoadPromise, WithdrawPromise, ClockPromise}
 use Rattle.bench.specs.RoundStated.{stationAt, OnlyAt}
 use Rattle.bench.specs.Taken.{load-taken, withdraw-taken, clock-taken}
 

@@ -17,7 +17,7 @@ use Rattle.bench.specs.declared.Called.{Called}
 use Rattle.bench.specs.Stations.{Bits, empty}
 use Rattle.bench.specs.Order.{sameBits}
 use Rattle.bench.specs.Calls.{Call, load, round, allEmpty, taken, after}
-use Rattle.bench.specs.Promises.{toldNumber, LoadPromise}
+use Rattle.bench.specs.Promise.{toldNumber, LoadPromise}
 use Rattle.bench.specs.Histories.{waiting, aheadIn, CallMade, loads, withdraws, setsClock, plays, Happens, nothing, then, roundsSeen, NoTrafficSeen}
 use Rattle.bench.specs.HistoryLaws.{accepted-taken}
 use Rattle.bench.specs.RowLaws.{sent-some}

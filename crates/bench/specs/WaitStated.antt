@@ -1,7 +1,7 @@
 -- Definitions.
 -- What the theorems on waiting are stated with: when a message goes out, and what its callers see of it.
 use Prim.Native.Nat.{ℕ, _≤_, _+_}
-use mathlib.Core.Bool.{cond, true}
+use mathlib.Core.Bool.{cond, true, false}
 use mathlib.Core.List.{List, [], _∷_, _++_}
 use mathlib.Core.Path.{_≡_}
 use lib.ListN.{getD, length, take}
@@ -10,13 +10,14 @@ use Rattle.frame.specs.Faults.{mostBytes}
 use Rattle.frame.specs.Reading.{reading, good}
 use Rattle.frame.specs.Writing.{frameSent, mostWords}
 use Rattle.bench.specs.declared.Fared.the-variants.{Idle, Through}
+use Rattle.bench.specs.declared.Called.{Called}
 use Rattle.bench.specs.declared.RoundAnswer.{RoundAnswer}
 use Rattle.bench.specs.declared.Station.{Station}
 use Rattle.bench.specs.Calls.{taken, round}
-use Rattle.bench.specs.Contest.{verdictOf, sumOf}
-use Rattle.bench.specs.Histories.{waiting, differentAhead, CallMade, plays, Happens, roundsSeen, loadsSeen, NoTrafficSeen, aheadIn, loads, withdraws, setsClock}
-use Rattle.bench.specs.Order.{sameBits}
-use Rattle.bench.specs.Promises.{RoundPromise, toldNumber}
+use Rattle.bench.specs.Round.{verdictOf, sumOf}
+use Rattle.bench.specs.Histories.{waiting, among, differentAhead, CallMade, plays, Happens, roundsSeen, loadsSeen, NoTrafficSeen, aheadIn, loads, withdraws, setsClock}
+use Rattle.bench.specs.Order.{sameBits, ahead}
+use Rattle.bench.specs.Promise.{RoundPromise, calledNumber, toldNumber}
 use Rattle.bench.specs.RoundStated.{winnerOf, stationAt}
 use Rattle.bench.specs.Stations.{Bits, bitsSent, waitingAt}
 
@@ -86,3 +87,18 @@ RoundLent (plays lent lentExit a) = mostWords ≤ length lent
 abbrev pub OnlyRounds : List CallMade → Type 0
 OnlyRounds [] = Unit {0}
 OnlyRounds (e ∷ events) = RoundLent e × OnlyRounds events
+
+-- no message stands in the list twice
+abbrev pub NoRepeat : List Bits → Type 0
+NoRepeat [] = Unit {0}
+NoRepeat (x ∷ xs) = (among x xs ≡ false) × NoRepeat xs
+
+-- an accepted loading of a message that is ahead of x
+pub data LoadAhead (x : List ℕ) : CallMade → Type 0 where
+  isLoad : {i : ℕ} {m : List ℕ} {a : Called} → calledNumber a ≡ 0 → ahead (bitsSent m) (bitsSent x) ≡ true → LoadAhead x (loads i m a)
+
+-- the second list has those calls of the first of which something is so, in their order, and no others
+pub data Picks (So : CallMade → Type 0) : List CallMade → List CallMade → Type 0 where
+  none : Picks So [] []
+  picked : {e : CallMade} {events those : List CallMade} → So e → Picks So events those → Picks So (e ∷ events) (e ∷ those)
+  passed : {e : CallMade} {events those : List CallMade} → ¬ (So e) → Picks So events those → Picks So (e ∷ events) those

@@ -19,7 +19,7 @@ use Rattle.bench.specs.declared.RoundAnswer.{RoundAnswer}
 use Rattle.bench.specs.Stations.{Bits, bitsSent, blank}
 use Rattle.bench.specs.OrderLaws.{ahead-differs, different-same}
 use Rattle.bench.specs.Calls.{load, withdraw, setClock, round, taken, after}
-use Rattle.bench.specs.Promises.{calledNumber, toldNumber, LoadPromise, WithdrawPromise, ClockPromise, RoundPromise}
+use Rattle.bench.specs.Promise.{calledNumber, toldNumber, LoadPromise, WithdrawPromise, ClockPromise, RoundPromise}
 use Rattle.bench.specs.Histories.{waiting, CallMade, loads, withdraws, setsClock, plays, callOf, Keeps, Happens, nothing, then, roundSeen, roundsSeen, loadSeen, loadsSeen, trafficSeen}
 use Rattle.bench.specs.HistoryLaws.{accepted-taken, row-after}
 use Rattle.bench.specs.First.{first-among}

@@ -19,9 +19,9 @@ use Rattle.bench.specs.declared.Called.{Called}
 use Rattle.bench.specs.declared.RoundAnswer.{RoundAnswer}
 use Rattle.bench.specs.Stations.{mostStored, Bits, bitsSent, waitingAt}
 use Rattle.bench.specs.OrderLaws.{same-refl}
-use Rattle.bench.specs.Contest.{roundOf, verdictOf}
+use Rattle.bench.specs.Round.{roundOf, verdictOf}
 use Rattle.bench.specs.Calls.{load, round, numberOf, taken}
-use Rattle.bench.specs.Promises.{calledNumber, LoadPromise, RoundPromise, RoundSaid, said, played, roundSays}
+use Rattle.bench.specs.Promise.{calledNumber, LoadPromise, RoundPromise, RoundSaid, said, played, roundSays}
 use Rattle.bench.specs.Histories.{waiting, aheadIn, CallMade, loads, withdraws, setsClock, plays, Happens, roundsSeen, loadSeen, loadsSeen, withdrawalSeen, NoWithdrawalSeen, trafficSeen, NoTrafficSeen}
 use Rattle.bench.specs.RoundStated.{winnerOf, stationAt}
 use Rattle.bench.specs.Places.{waiting-at, waiting-length, empty-none}

@@ -16,7 +16,7 @@ use Rattle.bench.specs.declared.Verdict.{Verdict}
 use Rattle.bench.specs.Stations.{mostStations, Bits, empty, waitingAt}
 use Rattle.bench.specs.Order.{Ahead}
 use Rattle.bench.specs.OrderLaws.{ahead-is, ahead-differs}
-use Rattle.bench.specs.Contest.{roundOf, verdictOf, verdictsOf}
+use Rattle.bench.specs.Round.{roundOf, verdictOf, verdictsOf}
 use Rattle.bench.specs.Calls.{round, taken, allSound, allEmpty}
 use Rattle.bench.specs.Histories.{waiting}
 use Rattle.bench.specs.First.{first-among}

@@ -16,8 +16,8 @@ use Rattle.bench.specs.declared.Station.{Station}
 use Rattle.bench.specs.declared.Fared.{Fared}
 use Rattle.bench.specs.declared.Fared.the-variants.{Idle, Through, Lost}
 use Rattle.bench.specs.Stations.{mostStored, blank}
-use Rattle.bench.specs.Round.{asked, shortest, longest, onLine, play}
-use Rattle.bench.specs.Contest.{pulsesOf, sofsAsked, sumOf, contestOf, roundOf, afterFares}
+use Rattle.bench.specs.Course.{asked, shortest, longest, onLine, play}
+use Rattle.bench.specs.Round.{pulsesOf, sofsAsked, sumOf, roundAmong, roundOf, afterFares}
 use Rattle.bench.specs.Calls.{load, round, allSound, allEmpty, numberOf, taken, done, after}
 
 -- a station that holds a message
@@ -50,12 +50,12 @@ lasts a b words time = eqb (length (roundOf (a ∷ b ∷ []) .words)) words && e
 -- "FF (clock 49, 112, 182) against FF FF (nominal): FF loses at bit 17. 27 words, line time 2,740."
 pub short-against-long : (losesAt (holds (clockOf 49 112 182) (0xFF ∷ [])) (holds nominalClock (0xFF ∷ 0xFF ∷ [])) 17
     && lasts (holds (clockOf 49 112 182) (0xFF ∷ [])) (holds nominalClock (0xFF ∷ 0xFF ∷ [])) 27 2740) ≡ true
-unfolding losesAt lasts roundOf contestOf play asked shortest longest onLine classOf pulsesOf sofsAsked sumOf bitsOf checkOf registerFrom stepOf
+unfolding losesAt lasts roundOf roundAmong play asked shortest longest onLine classOf pulsesOf sofsAsked sumOf bitsOf checkOf registerFrom stepOf
 short-against-long = refl
 
 -- "00 against FF: FF loses at bit 1."
 pub ones-against-zeros : losesAt (holds nominalClock (0xFF ∷ [])) (holds nominalClock (0x00 ∷ [])) 1 ≡ true
-unfolding losesAt roundOf contestOf play asked shortest longest onLine classOf pulsesOf sofsAsked sumOf bitsOf checkOf registerFrom stepOf
+unfolding losesAt roundOf roundAmong play asked shortest longest onLine classOf pulsesOf sofsAsked sumOf bitsOf checkOf registerFrom stepOf
 ones-against-zeros = refl
 
 -- ## Cases that are not starred
@@ -79,17 +79,17 @@ three = holds nominalClock (0x00 ∷ []) ∷ holds nominalClock (0xFF ∷ []) �
 
 -- "00, FF, FF FF all waiting: out in rounds 1, 3, 2."
 pub first-out : goOut three ≡ true ∷ false ∷ false ∷ []
-unfolding goOut roundOf contestOf play asked shortest longest onLine classOf pulsesOf sofsAsked sumOf bitsOf checkOf registerFrom stepOf
+unfolding goOut roundOf roundAmong play asked shortest longest onLine classOf pulsesOf sofsAsked sumOf bitsOf checkOf registerFrom stepOf
 first-out = refl
 
 -- FF FF in round 2 ..
 pub second-out : goOut (after (round words) three) ≡ false ∷ false ∷ true ∷ []
-unfolding goOut after taken numberOf done afterFares allSound allEmpty goodOf roundOf contestOf play asked shortest longest onLine classOf pulsesOf sofsAsked sumOf bitsOf checkOf registerFrom stepOf
+unfolding goOut after taken numberOf done afterFares allSound allEmpty goodOf roundOf roundAmong play asked shortest longest onLine classOf pulsesOf sofsAsked sumOf bitsOf checkOf registerFrom stepOf
 second-out = refl
 
 -- .. and FF in round 3.
 pub third-out : goOut (after (round words) (after (round words) three)) ≡ false ∷ true ∷ false ∷ []
-unfolding goOut after taken numberOf done afterFares allSound allEmpty goodOf roundOf contestOf play asked shortest longest onLine classOf pulsesOf sofsAsked sumOf bitsOf checkOf registerFrom stepOf
+unfolding goOut after taken numberOf done afterFares allSound allEmpty goodOf roundOf roundAmong play asked shortest longest onLine classOf pulsesOf sofsAsked sumOf bitsOf checkOf registerFrom stepOf
 third-out = refl
 
 -- "11 bytes are taken, 12 refused with 37. 101 words are enough, 100 give 32."

@@ -17,21 +17,21 @@ use Rattle.bench.specs.declared.Called.{Called}
 use Rattle.bench.specs.declared.Called.the-variants.{BadMessage, BadClock, Holding, NothingWaiting}
 use Rattle.bench.specs.declared.Station.{Station}
 use Rattle.bench.specs.Stations.{mostStations, blank}
-use Rattle.bench.specs.Contest.{emptied}
+use Rattle.bench.specs.Round.{emptied}
 use Rattle.bench.specs.Calls.{allSound, badMessage, placeRules, loaded, clocked}
-use Rattle.bench.specs.Promises.{calledNumber}
+use Rattle.bench.specs.Promise.{calledNumber}
 use Rattle.bench.specs.Taken.{within}
-use Rattle.bench_row.specs.declared.Bench.{Bench}
+use Rattle.bench_row.specs.declared.HeldRow.{HeldRow}
 use Rattle.bench_calls.specs.declared.Changed.{Changed}
 use Rattle.loops.specs.Scan.{getD-any}
-use Rattle.bench_calls.specs.Changes.{stationOf, ChangedBy, doneWith, rowNumber, loadAtNumber, loadedBench, withdrawAtNumber, withdrawnBench, clockAtNumber, clockedBench}
+use Rattle.bench_calls.specs.Changes.{stationOf, ChangedBy, doneWith, rowNumber, loadAtNumber, loadedRow, withdrawAtNumber, withdrawnRow, clockAtNumber, clockedRow}
 
 -- The first rules answered: done says whether they turned nothing away.
-module _ (b : Bench) (i : ℕ) (called : Called) (p : calledNumber called ≡ rowNumber b i) (done : Bool) (q : done ≡ eqb (calledNumber called) 0) where
+module _ (b : HeldRow) (i : ℕ) (called : Called) (p : calledNumber called ≡ rowNumber b i) (done : Bool) (q : done ≡ eqb (calledNumber called) 0) where
   first : eqb (rowNumber b i) 0 ≡ done
   first = sym (q ∙ ap (λ (n : ℕ). eqb n 0) p)
 
-  -- A call that is not turned away for its row or its place is at one of the bench's places.
+  -- A call that is not turned away for its row or its place is at one of the held places.
   pub place-in : done ≡ true → i < mostStations
   unfolding rowNumber
   place-in e =
@@ -44,56 +44,56 @@ module _ (b : Bench) (i : ℕ) (called : Called) (p : calledNumber called ≡ ro
   two later = first-then (placeRules (b .count) (allSound (b .at)) i) later refl
 
   -- Its own rules decide ..
-  pub goes-on : done ≡ true → (later : List Rule) (next : Bench) (r : Changed) → ChangedBy b (firstRule later) next r
+  pub goes-on : done ≡ true → (later : List Rule) (next : HeldRow) (r : Changed) → ChangedBy b (firstRule later) next r
       → ChangedBy b (firstRule (placeRules (b .count) (allSound (b .at)) i ++ later)) next r
   goes-on e later next r c = subst (λ (n : ℕ). ChangedBy b n next r) (sym (two later)) (rw (first ∙ e) c)
 
   -- .. or the first ones did.
-  pub stops : done ≡ false → (later : List Rule) (next : Bench)
-      → ChangedBy b (firstRule (placeRules (b .count) (allSound (b .at)) i ++ later)) next (record { bench = b; called = called })
+  pub stops : done ≡ false → (later : List Rule) (next : HeldRow)
+      → ChangedBy b (firstRule (placeRules (b .count) (allSound (b .at)) i ++ later)) next (record { held = b; called = called })
   stops e later next =
-      subst (λ (n : ℕ). ChangedBy b n next (record { bench = b; called = called })) (sym (two later))
+      subst (λ (n : ℕ). ChangedBy b n next (record { held = b; called = called })) (sym (two later))
       (record { says = rw (first ∙ e) p; leaves = rw (first ∙ e, first ∙ e) })
 
 -- ## The rules of each call, at a place that there is
 
 -- 37
-pub load-bad : (b : Bench) (i : ℕ) (m : List ℕ) → badMessage m .says ≡ true → ChangedBy b (loadAtNumber b i m) (loadedBench b i m) (record { bench = b; called = BadMessage })
+pub load-bad : (b : HeldRow) (i : ℕ) (m : List ℕ) → badMessage m .says ≡ true → ChangedBy b (loadAtNumber b i m) (loadedRow b i m) (record { held = b; called = BadMessage })
 unfolding loadAtNumber
 load-bad b i m e = rw e (record { says = refl; leaves = refl })
 
 -- 36
-pub clock-bad : (b : Bench) (i : ℕ) (c : Clock) → goodOf c ≡ false → ChangedBy b (clockAtNumber c) (clockedBench b i c) (record { bench = b; called = BadClock })
+pub clock-bad : (b : HeldRow) (i : ℕ) (c : Clock) → goodOf c ≡ false → ChangedBy b (clockAtNumber c) (clockedRow b i c) (record { held = b; called = BadClock })
 unfolding clockAtNumber
 clock-bad b i c e = rw e (record { says = refl; leaves = refl })
 
 -- The station is read at the place, whatever stands past the end.
-module _ (b : Bench) (i : ℕ) (d : Station) (h : i < length (b .at)) where
+module _ (b : HeldRow) (i : ℕ) (d : Station) (h : i < length (b .at)) where
   there : getD (b .at) i d ≡ stationOf b i
   there = getD-any (b .at) i d blank h
 
   module _ (m : List ℕ) (e : badMessage m .says ≡ false) where
     -- 41
-    pub load-holding : 0 < getD (b .at) i d .len → ChangedBy b (loadAtNumber b i m) (loadedBench b i m) (record { bench = b; called = Holding })
+    pub load-holding : 0 < getD (b .at) i d .len → ChangedBy b (loadAtNumber b i m) (loadedRow b i m) (record { held = b; called = Holding })
     unfolding loadAtNumber
     load-holding k = rw (e, ← there, ne-eqb (getD (b .at) i d .len) 0 (λ z. omega arith)) (record { says = refl; leaves = refl })
 
     -- loaded
-    pub load-done : getD (b .at) i d .len ≤ 0 → (s : Station) → s ≡ loaded m (getD (b .at) i d) → (r : Changed) → r ≡ doneWith b i s → ChangedBy b (loadAtNumber b i m) (loadedBench b i m) r
+    pub load-done : getD (b .at) i d .len ≤ 0 → (s : Station) → s ≡ loaded m (getD (b .at) i d) → (r : Changed) → r ≡ doneWith b i s → ChangedBy b (loadAtNumber b i m) (loadedRow b i m) r
     unfolding loadAtNumber
     load-done k s p r q = rw (e, ← there, eq-eqb (getD (b .at) i d .len) 0 (omega arith), q, p) (record { says = refl; leaves = refl })
 
   -- 42
-  pub withdraw-nothing : getD (b .at) i d .len ≡ 0 → ChangedBy b (withdrawAtNumber b i) (withdrawnBench b i) (record { bench = b; called = NothingWaiting })
+  pub withdraw-nothing : getD (b .at) i d .len ≡ 0 → ChangedBy b (withdrawAtNumber b i) (withdrawnRow b i) (record { held = b; called = NothingWaiting })
   unfolding withdrawAtNumber
   withdraw-nothing k = rw (← there, eq-eqb (getD (b .at) i d .len) 0 k) (record { says = refl; leaves = refl })
 
   -- withdrawn
-  pub withdraw-done : (getD (b .at) i d .len ≡ 0 → ⊥) → (s : Station) → s ≡ emptied (getD (b .at) i d) → (r : Changed) → r ≡ doneWith b i s → ChangedBy b (withdrawAtNumber b i) (withdrawnBench b i) r
+  pub withdraw-done : (getD (b .at) i d .len ≡ 0 → ⊥) → (s : Station) → s ≡ emptied (getD (b .at) i d) → (r : Changed) → r ≡ doneWith b i s → ChangedBy b (withdrawAtNumber b i) (withdrawnRow b i) r
   unfolding withdrawAtNumber
   withdraw-done k s p r q = rw (← there, ne-eqb (getD (b .at) i d .len) 0 k, q, p) (record { says = refl; leaves = refl })
 
   -- the clock is set
-  pub clock-done : (c : Clock) → goodOf c ≡ true → (s : Station) → s ≡ clocked c (getD (b .at) i d) → (r : Changed) → r ≡ doneWith b i s → ChangedBy b (clockAtNumber c) (clockedBench b i c) r
+  pub clock-done : (c : Clock) → goodOf c ≡ true → (s : Station) → s ≡ clocked c (getD (b .at) i d) → (r : Changed) → r ≡ doneWith b i s → ChangedBy b (clockAtNumber c) (clockedRow b i c) r
   unfolding clockAtNumber
   clock-done c e s p r q = rw (e, ← there, q, p) (record { says = refl; leaves = refl })

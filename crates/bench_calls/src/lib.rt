@@ -8,34 +8,34 @@ ghost use lib.ListN.{length};
 ghost use Rattle.bench.specs.Stations.{mostStations, mostStored};
 ghost use Rattle.bench.specs.Calls as Calls;
 ghost use Rattle.bench.specs.Calls.{clocked};
-ghost use Rattle.bench.specs.Promises.{calledNumber};
-ghost use Rattle.bench_calls.specs.Changes.{withOf, callNumber, rowNumber, doneWith, ChangedBy, loadAtNumber, loadedBench, withdrawAtNumber, withdrawnBench, clockAtNumber, clockedBench};
+ghost use Rattle.bench.specs.Promise.{calledNumber};
+ghost use Rattle.bench_calls.specs.Changes.{withOf, callNumber, rowNumber, doneWith, ChangedBy, loadAtNumber, loadedRow, withdrawAtNumber, withdrawnRow, clockAtNumber, clockedRow};
 use bench::Called;
 use bench::MOST_STATIONS;
 use bench::MOST_STORED;
 use bench::Station;
-use bench_row::Bench;
+use bench_row::HeldRow;
 use symbol::Clock;
 
-// What a call answers, and the bench after it.
+// What a call answers, and the held row after it.
 pub struct Changed {
-    pub bench: Bench,
+    pub held: HeldRow,
     pub called: Called,
 }
 
 // What every call at a place is turned away for first: the row's size, an unsound station in it, no station there.
-fn row_call(bench: Bench, place: usize) -> Called
-    ensures { λ r. ⌜ calledNumber r ≡ rowNumber bench place ⌝ }
+fn row_call(held: HeldRow, place: usize) -> Called
+    ensures { λ r. ⌜ calledNumber r ≡ rowNumber held place ⌝ }
 {
-    let at = bench.at;
+    let at = held.at;
     let asked = bench_row::survey_all(at);
-    if bench_row::bad_size(bench.count) {
+    if bench_row::bad_size(held.count) {
         return Called::RowSize;
     }
     if !asked.sound {
         return Called::UnsoundStation;
     }
-    if bench.count <= place {
+    if held.count <= place {
         return Called::NoStation;
     }
     Called::Done
@@ -54,38 +54,38 @@ fn is_done(called: Called) -> bool
 // ## Loading
 
 // Loads a message at a place.
-pub fn load_on(bench: Bench, place: usize, message: &[u8]) -> Changed
-    ensures { λ r. ⌜ ChangedBy bench (callNumber (Calls.load place (now (message .entry))) bench) (loadedBench bench place (now (message .entry))) r ⌝ }
+pub fn load_on(held: HeldRow, place: usize, message: &[u8]) -> Changed
+    ensures { λ r. ⌜ ChangedBy held (callNumber (Calls.load place (now (message .entry))) held) (loadedRow held place (now (message .entry))) r ⌝ }
 {
-    let called = row_call(bench, place);
+    let called = row_call(held, place);
     if is_done(called) {
-        return load_at(bench, place, message);
+        return load_at(held, place, message);
     }
-    Changed { bench, called }
+    Changed { held, called }
 }
 
 // The same at a place that there is.
-fn load_at(bench: Bench, place: usize, message: &[u8]) -> Changed
+fn load_at(held: HeldRow, place: usize, message: &[u8]) -> Changed
     requires { ⌜ place < mostStations ⌝ }
-    ensures { λ r. ⌜ ChangedBy bench (loadAtNumber bench place (now (message .entry))) (loadedBench bench place (now (message .entry))) r ⌝ }
+    ensures { λ r. ⌜ ChangedBy held (loadAtNumber held place (now (message .entry))) (loadedRow held place (now (message .entry))) r ⌝ }
 {
-    let station = bench.at[place];
+    let station = held.at[place];
     let bad = bad_message(message.len());
     let holding = 0 < station.len;
     if bad {
         return Changed {
-            bench,
+            held,
             called: Called::BadMessage,
         };
     }
     if holding {
         return Changed {
-            bench,
+            held,
             called: Called::Holding,
         };
     }
     let next = loaded(station, message);
-    taken(bench, place, next)
+    taken(held, place, next)
 }
 
 // Whether a message of so many bytes is empty, or has more than 11.
@@ -121,22 +121,22 @@ fn length_of(count: usize) -> u8
     count as u8
 }
 
-// A call that is taken: the bench with another station at a place.
-fn taken(bench: Bench, place: usize, station: Station) -> Changed
-    ensures { λ r. ⌜ r ≡ doneWith bench place station ⌝ }
+// A call that is taken: the held row with another station at a place.
+fn taken(held: HeldRow, place: usize, station: Station) -> Changed
+    ensures { λ r. ⌜ r ≡ doneWith held place station ⌝ }
 {
-    let next = with(bench, place, station);
+    let next = with(held, place, station);
     Changed {
-        bench: next,
+        held: next,
         called: Called::Done,
     }
 }
 
-// The bench with a station put at place i. A place past the 32nd is not kept.
-fn with(bench: Bench, i: usize, station: Station) -> Bench
-    ensures { λ r. ⌜ r ≡ withOf bench i station ⌝ }
+// The held row with a station put at place i. A place past the 32nd is not kept.
+fn with(held: HeldRow, i: usize, station: Station) -> HeldRow
+    ensures { λ r. ⌜ r ≡ withOf held i station ⌝ }
 {
-    let mut next = bench;
+    let mut next = held;
     if i < MOST_STATIONS {
         next.at[i] = station;
     }
@@ -146,57 +146,57 @@ fn with(bench: Bench, i: usize, station: Station) -> Bench
 // ## Withdrawing
 
 // Withdraws the message at a place.
-pub fn withdraw_on(bench: Bench, place: usize) -> Changed
-    ensures { λ r. ⌜ ChangedBy bench (callNumber (Calls.withdraw place) bench) (withdrawnBench bench place) r ⌝ }
+pub fn withdraw_on(held: HeldRow, place: usize) -> Changed
+    ensures { λ r. ⌜ ChangedBy held (callNumber (Calls.withdraw place) held) (withdrawnRow held place) r ⌝ }
 {
-    let called = row_call(bench, place);
+    let called = row_call(held, place);
     if is_done(called) {
-        return withdraw_at(bench, place);
+        return withdraw_at(held, place);
     }
-    Changed { bench, called }
+    Changed { held, called }
 }
 
 // The same at a place that there is.
-fn withdraw_at(bench: Bench, place: usize) -> Changed
+fn withdraw_at(held: HeldRow, place: usize) -> Changed
     requires { ⌜ place < mostStations ⌝ }
-    ensures { λ r. ⌜ ChangedBy bench (withdrawAtNumber bench place) (withdrawnBench bench place) r ⌝ }
+    ensures { λ r. ⌜ ChangedBy held (withdrawAtNumber held place) (withdrawnRow held place) r ⌝ }
 {
-    let station = bench.at[place];
+    let station = held.at[place];
     if station.len == 0 {
         return Changed {
-            bench,
+            held,
             called: Called::NothingWaiting,
         };
     }
     let next = bench_row::empty(station);
-    taken(bench, place, next)
+    taken(held, place, next)
 }
 
 // ## Setting a clock
 
 // Sets the clock at a place.
-pub fn set_clock_on(bench: Bench, place: usize, clock: Clock) -> Changed
-    ensures { λ r. ⌜ ChangedBy bench (callNumber (Calls.setClock place clock) bench) (clockedBench bench place clock) r ⌝ }
+pub fn set_clock_on(held: HeldRow, place: usize, clock: Clock) -> Changed
+    ensures { λ r. ⌜ ChangedBy held (callNumber (Calls.setClock place clock) held) (clockedRow held place clock) r ⌝ }
 {
-    let called = row_call(bench, place);
+    let called = row_call(held, place);
     if is_done(called) {
-        return set_clock_at(bench, place, clock);
+        return set_clock_at(held, place, clock);
     }
-    Changed { bench, called }
+    Changed { held, called }
 }
 
 // The same at a place that there is.
-fn set_clock_at(bench: Bench, place: usize, clock: Clock) -> Changed
+fn set_clock_at(held: HeldRow, place: usize, clock: Clock) -> Changed
     requires { ⌜ place < mostStations ⌝ }
-    ensures { λ r. ⌜ ChangedBy bench (clockAtNumber clock) (clockedBench bench place clock) r ⌝ }
+    ensures { λ r. ⌜ ChangedBy held (clockAtNumber clock) (clockedRow held place clock) r ⌝ }
 {
-    let station = bench.at[place];
+    let station = held.at[place];
     if symbol::good_clock(clock) {
         let next = with_clock(station, clock);
-        return taken(bench, place, next);
+        return taken(held, place, next);
     }
     Changed {
-        bench,
+        held,
         called: Called::BadClock,
     }
 }

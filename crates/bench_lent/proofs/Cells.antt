@@ -1,4 +1,4 @@
--- The 32 places of a bench: one array in a local, and the cells of its elements.
+-- The 32 places of a held row: one array in a local, and the cells of its elements.
 use mathlib.Core.Path.{_≡_}
 use Prim.Native.Nat.{ℕ, _<_, _*_, _^_}
 use native.Mathlib.Omega.{arith}

@@ -40,11 +40,11 @@ use denote.Triple.Spec.{tripleOf}
 use denote.Triple.Clauses.{ensured, lasts}
 use Rattle.bench.specs.declared.Station.{Station}
 use Rattle.bench.proofs.Station as T
-use Rattle.bench_row.specs.declared.Bench.{Bench}
-use Rattle.bench_row.specs.Benches.{benchOf}
+use Rattle.bench_row.specs.declared.HeldRow.{HeldRow}
+use Rattle.bench_row.specs.HeldRows.{heldOf}
 use Rattle.bench_lent.specs.Restoring.{putBack}
-use Rattle.bench_row.proofs.Bench as B
-use Rattle.bench_row.proofs.Bench.Laws as B′
+use Rattle.bench_row.proofs.HeldRow as B
+use Rattle.bench_row.proofs.HeldRow.Laws as B′
 use Rattle.bench_lent.proofs.row.gathered as gathered
 use Rattle.bench_lent.proofs.row.gathered.Symbol.{name as #gathered}
 use Rattle.bench_lent.proofs.row.put_back as put-back
@@ -53,8 +53,8 @@ use Rattle.bench_lent.proofs.row.put_back.Symbol.{name as #put-back}
 abbrev R : RattleType
 R = T.the-row
 
--- the machine value of a bench
-abbrev pub bval : Bench → Val
+-- the machine value of a held row
+abbrev pub bval : HeldRow → Val
 bval = LL.val B.the-type B′.the-laws
 
 abbrev row-at : GName → ℕ → ℕ → List Station → RefT (List Station)
@@ -82,18 +82,18 @@ module _ {M : Type 1} (𝓤 : URA M) (H : Heap 𝓤) (A : Atoms 𝓤) (mem : Mem
     abbrev pub to-gathered : Gathered .Ghost
     to-gathered = (((κ, tt), (q, tt), tt, (row-at γ b o l, tt), (s ∷ [], tt)), tt)
 
-    abbrev gathered-ens : Bench → SProp 𝓤
+    abbrev gathered-ens : HeldRow → SProp 𝓤
     gathered-ens = ensured 𝓤 H A gathered.ended (gathered.clauses 𝓤 H A mem run) (κ, tt) (row-at γ b o l, tt) tt
 
-    gathered-says : (r : Bench) → ent 𝓤 (gathered-ens r) (fact 𝓤 (r ≡ benchOf l))
-    gathered-says r = exE 𝓤 _ (λ ws. snd∗ 𝓤 (sem 𝓤 H A (lasts gathered.ended (κ, tt) (row-at γ b o l, tt) ws)) (fact 𝓤 (r ≡ benchOf l)))
+    gathered-says : (r : HeldRow) → ent 𝓤 (gathered-ens r) (fact 𝓤 (r ≡ heldOf l))
+    gathered-says r = exE 𝓤 _ (λ ws. snd∗ 𝓤 (sem 𝓤 H A (lasts gathered.ended (κ, tt) (row-at γ b o l, tt) ws)) (fact 𝓤 (r ≡ heldOf l)))
 
     asks-gathered : (W : Given 𝓤 H A) → ent 𝓤 (sep 𝓤 (A .lft κ q) (sem 𝓤 H A (ShrSlice (named 0) κ R .own (row-at γ b o l) (s ∷ [])))) (Gathered .pre to-gathered)
     asks-gathered W =
         qed W (‵ (flft κ q) ∷ ‵ (ShrSlice (named 0) κ R .own (row-at γ b o l) (s ∷ [])) ∷ []) ∵ nothing ! $ move ! (2 ∷ 0 ∷ []) $ fjoin ! $ nothing ! $ move ! (2 ∷ 0 ∷ []) $ join ! $ join ! $ frame ! $ done !
 
-    -- a call of `put_back` with this row and a bench
-    module _ (c : Bench) where
+    -- a call of `put_back` with this row and a held row
+    module _ (c : HeldRow) where
       abbrev pub to-put-back : PutBack .Ghost
       to-put-back = (((κ, tt), (q, tt), tt, (row-at γ b o l, (c, tt)), (s ∷ [], (bval c ∷ [], tt))), tt)
 
@@ -113,7 +113,7 @@ module _ {M : Type 1} {𝓤 : URA M} {H : Heap 𝓤} {A : Atoms 𝓤} {K : Type 
   pub calls-gathered : Triple 𝓤 (C #gathered) (Gathered 𝓤 H A at-mem run)
       → ((α : ℕ) (γ₁ : GName) → Opds K W (raw (Gathered 𝓤 H A at-mem run .pre (to-gathered 𝓤 H A at-mem run (α ∷ []) fullShare γ₁ b o ys)) ∷ ‵ (flent (α ∷ []) (arr-parts (shares R) (length ys) .part fullShare ys b o))
       ∷ ‵ (fobor κ q (Held R (length ys) b o γ)) ∷ ‵ (fobs γ (codedHoleys R .code (heres R ys))) ∷ ‵ (fauth γ (codedHoleys R .code (heres R ys))) ∷ Γ) E xs (sliceVal (b, o) (length ys) ∷ []))
-      → (Is B.the-row (benchOf ys) (bval (benchOf ys) ∷ []) → Seq K W (Had κ q γ b o ys Γ) (lands C Λ E d (bval (benchOf ys)) rest p))
+      → (Is B.the-row (heldOf ys) (bval (heldOf ys) ∷ []) → Seq K W (Had κ q γ b o ys Γ) (lands C Λ E d (bval (heldOf ys)) rest p))
       → Seq K W (Had κ q γ b o ys Γ) (runs C Λ E (seq (call #gathered xs d) rest) p)
   calls-gathered met os k =
       opens-slice t tt R ys b o $ feqI t ℕ (length ys) (length ys) refl $ fjoin t $ lft-new t tt (λ α. move t (1 ∷ []) $
@@ -122,14 +122,14 @@ module _ {M : Type 1} {𝓤 : URA M} {H : Heap 𝓤} {A : Atoms 𝓤} {K : Type 
       -- [the `&`; the lender's part; its token; the open borrow; obs; auth]
       move t (2 ∷ 0 ∷ []) $ use2 W (raw (Gathered 𝓤 H A at-mem run .pre (to-gathered 𝓤 H A at-mem run (α ∷ []) fullShare γ₁ b o ys))) (asks-gathered 𝓤 H A at-mem run (α ∷ []) fullShare γ₁ b o ys W) $
       calls-at t fm (Gathered 𝓤 H A at-mem run) met (to-gathered 𝓤 H A at-mem run (α ∷ []) fullShare γ₁ b o ys) (os α γ₁) (λ v.
-      use1 W (later (some (λ (r : Bench). ((‵ (flft (α ∷ []) fullShare) ⊛ ‵ ftrue) ⊛ ‵ (B.the-row .own r (v ∷ []))) ⊛ raw (gathered-ens 𝓤 H A at-mem run (α ∷ []) fullShare γ₁ b o ys r)))) (id⊢ 𝓤 _) $ await t tt $ pick t (λ r.
-      split t $ move t (1 ∷ []) $ use1 W (raw (fact 𝓤 (r ≡ benchOf ys))) (gathered-says 𝓤 H A at-mem run (α ∷ []) fullShare γ₁ b o ys r) $ heard t (r ≡ benchOf ys) (λ e. split t $ move t (1 ∷ []) $
-      rewrite t 0 (λ (z : Bench). ‵ (B.the-row .own z (v ∷ []))) e refl $ facts t B.the-row (Is B.the-row) (shows 𝓤 H A B.the-row) (benchOf ys) (v ∷ []) (λ is. split t $ move t (1 ∷ []) $ drop t $
+      use1 W (later (some (λ (r : HeldRow). ((‵ (flft (α ∷ []) fullShare) ⊛ ‵ ftrue) ⊛ ‵ (B.the-row .own r (v ∷ []))) ⊛ raw (gathered-ens 𝓤 H A at-mem run (α ∷ []) fullShare γ₁ b o ys r)))) (id⊢ 𝓤 _) $ await t tt $ pick t (λ r.
+      split t $ move t (1 ∷ []) $ use1 W (raw (fact 𝓤 (r ≡ heldOf ys))) (gathered-says 𝓤 H A at-mem run (α ∷ []) fullShare γ₁ b o ys r) $ heard t (r ≡ heldOf ys) (λ e. split t $ move t (1 ∷ []) $
+      rewrite t 0 (λ (z : HeldRow). ‵ (B.the-row .own z (v ∷ []))) e refl $ facts t B.the-row (Is B.the-row) (shows 𝓤 H A B.the-row) (heldOf ys) (v ∷ []) (λ is. split t $ move t (1 ∷ []) $ drop t $
       -- [the token; the lender's part; the open borrow; obs; auth]: the row comes back
       lft-end t tt $ lent-back t tt $ fsplit t $ drop t $ closes-slice t tt R ys ys refl b o $
-      regoal t (λ (u : Val). lands C Λ E d u rest p) (ap only (LL.tells B.the-type B′.the-laws (benchOf ys) (v ∷ []) is)) refl $ k (subst (Is B.the-row (benchOf ys)) (LL.tells B.the-type B′.the-laws (benchOf ys) (v ∷ []) is) is)))))))
+      regoal t (λ (u : Val). lands C Λ E d u rest p) (ap only (LL.tells B.the-type B′.the-laws (heldOf ys) (v ∷ []) is)) refl $ k (subst (Is B.the-row (heldOf ys)) (LL.tells B.the-type B′.the-laws (heldOf ys) (v ∷ []) is) is)))))))
 
-  pub calls-put-back : Triple 𝓤 (C #put-back) (PutBack 𝓤 H A at-mem run) → (c : Bench) → Is B.the-row c (bval c ∷ [])
+  pub calls-put-back : Triple 𝓤 (C #put-back) (PutBack 𝓤 H A at-mem run) → (c : HeldRow) → Is B.the-row c (bval c ∷ [])
       → Opds K W (raw (PutBack 𝓤 H A at-mem run .pre (to-put-back 𝓤 H A at-mem run κ q γ b o ys c)) ∷ Γ) E xs (sliceVal (b, o) (length ys) ∷ bval c ∷ [])
       → Seq K W (‵ (finally R γ (putBack c ys)) ∷ ‵ (flft κ q) ∷ Γ) (lands C Λ E d vunit rest p)
       → Seq K W (Had κ q γ b o ys Γ) (runs C Λ E (seq (call #put-back xs d) rest) p)

@@ -1,5 +1,5 @@
 -- Laws.
--- A round on a lent row keeps its promise: the row is gathered into a bench, the round is played on the bench, and the bench
+-- A round on a lent row keeps its promise: the row is gathered into a held row, the round is played on the held row, and the held row
 -- is put back.
 use Prim.Native.Nat.{ℕ, suc, _+_, _-_, _≤_}
 use mathlib.Core.Path.{_≡_, refl, ap, ap₂, _∙_}
@@ -14,15 +14,15 @@ use Rattle.bench.specs.declared.Fared.{Fared}
 use Rattle.bench.specs.declared.Fared.the-variants.{Idle}
 use Rattle.bench.specs.declared.Verdict.{Verdict}
 use Rattle.bench.specs.Stations.{mostStations, blank}
-use Rattle.bench.specs.Contest.{Round, roundOf, verdictOf, verdictsOf, afterFares}
+use Rattle.bench.specs.Round.{Round, roundOf, verdictOf, verdictsOf, afterFares}
 use Rattle.bench.specs.Calls.{round, allSound, numberOf, taken, done, after, written, lentAfter}
-use Rattle.bench.specs.Promises.{RoundSaid, RoundPromise, said, played, turnedAway, roundSays}
+use Rattle.bench.specs.Promise.{RoundSaid, RoundPromise, said, played, turnedAway, roundSays}
 use Rattle.bench.specs.Taken.{round-taken}
 use Rattle.bench.specs.RowLaws.{faresAgainst, row-fares}
 use Rattle.bench.specs.RoundStated.{winnerOf}
-use Rattle.bench_row.specs.declared.Bench.{Bench}
+use Rattle.bench_row.specs.declared.HeldRow.{HeldRow}
 use Rattle.bench_round.specs.declared.Played.{Played}
-use Rattle.bench_row.specs.Benches.{benchOf}
+use Rattle.bench_row.specs.HeldRows.{heldOf}
 use Rattle.bench_round.specs.Rounds.{roundNumber, numberOn, PlayedBy}
 use Rattle.bench_lent.specs.Padding.{map-append, map-replicate, round-pad, after-pad}
 use Rattle.bench_lent.specs.Restoring.{padded, putBack, put-first, put-same}
@@ -46,8 +46,8 @@ after-length (f ∷ fares) [] = refl
 after-length (f ∷ fares) (s ∷ row) = ap suc (after-length fares row)
 
 module _ (row : List Station) (lent : List ℕ) where
-  rules : numberOn (benchOf row) lent ≡ numberOf (round lent) row
-  unfolding roundNumber benchOf
+  rules : numberOn (heldOf row) lent ≡ numberOf (round lent) row
+  unfolding roundNumber heldOf
   rules = same-number row (round lent)
 
   module _ (few : length row ≤ mostStations) (sound : allSound row ≡ true) where
@@ -57,18 +57,18 @@ module _ (row : List Station) (lent : List ℕ) where
     fares-length : length (roundOf row .fares) ≡ length row
     fares-length = ap length (row-fares row sound) ∙ length-map row (faresAgainst (winnerOf row))
 
-    round-same : roundOf (benchOf row .at) ≡ record { words = roundOf row .words; fares = roundOf row .fares ++ replicate left Idle; lineTime = roundOf row .lineTime }
+    round-same : roundOf (heldOf row .at) ≡ record { words = roundOf row .words; fares = roundOf row .fares ++ replicate left Idle; lineTime = roundOf row .lineTime }
     unfolding left
     round-same = ap roundOf (padded row few) ∙ round-pad (mostStations - length row) row
 
-    played-same : played (roundOf (benchOf row .at)) ≡ played (roundOf row)
+    played-same : played (roundOf (heldOf row .at)) ≡ played (roundOf row)
     unfolding left
     played-same =
         ap played round-same
         ∙ ap (λ (vs : List Verdict). let s : RoundSaid = record { number = 0; verdicts = vs; words = length (roundOf row .words); lineTime = roundOf row .lineTime } in s)
         (verdicts-pad (roundOf row .fares) (mostStations - length row) (omega (arith, fares-length)))
 
-    put-round : (b : Bench) → b .at ≡ afterFares (roundOf (benchOf row .at) .fares) (benchOf row .at) → putBack b row ≡ afterFares (roundOf row .fares) row
+    put-round : (b : HeldRow) → b .at ≡ afterFares (roundOf (heldOf row .at) .fares) (heldOf row .at) → putBack b row ≡ afterFares (roundOf row .fares) row
     unfolding left
     put-round b e =
         let so : b .at ≡ afterFares (roundOf row .fares) row ++ replicate (mostStations - length row) blank =
@@ -76,38 +76,38 @@ module _ (row : List Station) (lent : List ℕ) where
         put-first b row (afterFares (roundOf row .fares) row) (after-length (roundOf row .fares) row)
         (ap (take (length row)) so ∙ take-at (afterFares (roundOf row .fares) row) (replicate (mostStations - length row) blank) (length row) (after-length (roundOf row .fares) row))
 
-  -- A round that is played on the bench of a row keeps the promise for the row.
-  pub round-kept : (lent′ : List ℕ) (r : Played) → PlayedBy (benchOf row) lent lent′ r → RoundPromise row (putBack (r .bench) row) lent lent′ (r .answer)
+  -- A round that is played on the held row of a lent one keeps the promise for the row.
+  pub round-kept : (lent′ : List ℕ) (r : Played) → PlayedBy (heldOf row) lent lent′ r → RoundPromise row (putBack (r .held) row) lent lent′ (r .answer)
   unfolding roundSays after taken done lentAfter
   round-kept lent′ r c = go (eqb (numberOf (round lent) row) 0) refl (c .says ∙ ap says rules) (c .leaves ∙ ap leaves rules) (c .lends ∙ ap lends rules)
     where
       now : List Station
-      now = benchOf row .at
+      now = heldOf row .at
 
       says : ℕ → RoundSaid
       says n = cond (eqb n 0) (played (roundOf now)) (turnedAway n)
 
-      leaves : ℕ → Bench
-      leaves n = cond (eqb n 0) (record { at = afterFares (roundOf now .fares) now; count = benchOf row .count }) (benchOf row)
+      leaves : ℕ → HeldRow
+      leaves n = cond (eqb n 0) (record { at = afterFares (roundOf now .fares) now; count = heldOf row .count }) (heldOf row)
 
       lends : ℕ → List ℕ
       lends n = cond (eqb n 0) (written (roundOf now .words) lent) lent
 
       go : (t : Bool) → eqb (numberOf (round lent) row) 0 ≡ t
           → said (r .answer) ≡ cond t (played (roundOf now)) (turnedAway (numberOf (round lent) row))
-          → r .bench ≡ cond t (record { at = afterFares (roundOf now .fares) now; count = benchOf row .count }) (benchOf row)
+          → r .held ≡ cond t (record { at = afterFares (roundOf now .fares) now; count = heldOf row .count }) (heldOf row)
           → lent′ ≡ cond t (written (roundOf now .words) lent) lent
-          → RoundPromise row (putBack (r .bench) row) lent lent′ (r .answer)
+          → RoundPromise row (putBack (r .held) row) lent lent′ (r .answer)
       go true e p q s =
           let k = round-taken lent row e .passed in
           record {
             says-it = rw e (p ∙ played-same (k .few) (k .sound));
-            leaves-it = rw e (put-round (k .few) (k .sound) (r .bench) (ap (λ (b : Bench). b .at) q));
+            leaves-it = rw e (put-round (k .few) (k .sound) (r .held) (ap (λ (b : HeldRow). b .at) q));
             lends-it = rw e (s ∙ ap (λ (x : Round). written (x .words) lent) (round-same (k .few) (k .sound)));
           }
       go false e p q s =
           record {
             says-it = rw e p;
-            leaves-it = rw e (ap (λ (b : Bench). putBack b row) q ∙ put-same row);
+            leaves-it = rw e (ap (λ (b : HeldRow). putBack b row) q ∙ put-same row);
             lends-it = rw e s;
           }

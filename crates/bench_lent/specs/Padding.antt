@@ -11,8 +11,8 @@ use Rattle.bench.specs.declared.Station.{Station}
 use Rattle.bench.specs.declared.Fared.{Fared}
 use Rattle.bench.specs.declared.Fared.the-variants.{Idle}
 use Rattle.bench.specs.Stations.{blank}
-use Rattle.bench.specs.Round.{Pulse, Seat, out, asks, asked, widthsOf, lasts, onLine, heard, Course, over, bitThen, nobodyAsks, mostBits, play, faredAt}
-use Rattle.bench.specs.Contest.{Entry, absent, entryOf, sofAsks, sofsAsked, seatOf, contestOf, roundOf, afterFare, afterFares}
+use Rattle.bench.specs.Course.{Pulse, Seat, out, asks, asked, widthsOf, lasts, onLine, heard, Course, over, bitThen, nobodyAsks, mostBits, play, faredAt}
+use Rattle.bench.specs.Round.{Entry, absent, entryOf, sofAsks, sofsAsked, seatOf, roundAmong, roundOf, afterFare, afterFares}
 use Rattle.bench.specs.Calls.{allSound, allEmpty}
 
 -- places that take no part
@@ -103,7 +103,7 @@ module _ (n : ℕ) where
 
   -- The same words and line time, and idle past the row.
   pub round-pad : (row : List Station) → roundOf (row ++ replicate n blank) ≡ record { words = roundOf row .words; fares = roundOf row .fares ++ replicate n Idle; lineTime = roundOf row .lineTime }
-  unfolding roundOf contestOf more
+  unfolding roundOf roundAmong more
   round-pad row =
       rw (entries-pad row, sofs-pad (map entryOf row), seats-pad (map entryOf row), play-pad mostBits false 1 (map seatOf (map entryOf row)), fares-pad (play mostBits false 1 (map seatOf (map entryOf row)) .seats))
 

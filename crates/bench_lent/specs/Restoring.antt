@@ -1,5 +1,5 @@
 -- Machinery.
--- A lent row becomes a bench, and a bench goes back into the lent row.
+-- A lent row becomes a held row, and a held row goes back into the lent row.
 use Prim.Native.Nat.{ℕ, zero, suc, _+_, _-_, _≤_, _<_, min}
 use mathlib.Core.Path.{_≡_, refl, sym, ap, _∙_}
 use mathlib.Core.Logic.{_⊎_, inl, inr}
@@ -11,13 +11,13 @@ use native.Mathlib.Numerals.{add-one}
 use Rattle.laws.specs.Tests.{upTo}
 use Rattle.bench.specs.declared.Station.{Station}
 use Rattle.bench.specs.Stations.{mostStations, blank}
-use Rattle.bench_row.specs.declared.Bench.{Bench}
+use Rattle.bench_row.specs.declared.HeldRow.{HeldRow}
 use Rattle.loops.specs.Scan.{from, from-same, from-length, from-list, getD-any}
-use Rattle.bench_row.specs.Benches.{benchOf}
+use Rattle.bench_row.specs.HeldRows.{heldOf}
 
 -- ## Gathering
 
--- the places of a bench, of which i are filled
+-- the places of a held row, of which i are filled
 unfoldable pub gathered : List Station → ℕ → List Station
 gathered row i = take mostStations (take i row ++ replicate mostStations blank)
 
@@ -64,9 +64,9 @@ gather-more row i d h = go (upTo mostStations i)
         ∙ enough (p ++ (getD row i d ∷ [])) mostStations 31 mostStations (omega (arith, n, length-append p (getD row i d ∷ []))) (omega arith)
         ∙ ap (λ (l : List Station). take mostStations (l ++ replicate mostStations blank)) (sym next)
 
--- all that a bench keeps
-pub gather-all : (row : List Station) (i : ℕ) → i ≡ min (length row) mostStations → (let b : Bench = record { at = gathered row i; count = length row } in b) ≡ benchOf row
-unfolding gathered benchOf
+-- all that a held row keeps
+pub gather-all : (row : List Station) (i : ℕ) → i ≡ min (length row) mostStations → (let b : HeldRow = record { at = gathered row i; count = length row } in b) ≡ heldOf row
+unfolding gathered heldOf
 gather-all row i e = ap (λ (l : List Station). record { at = l; count = length row }) (go (upTo mostStations (length row)))
   where
     go : (mostStations ≤ length row) ⊎ (length row < mostStations) → take mostStations (take i row ++ replicate mostStations blank) ≡ take mostStations (row ++ replicate mostStations blank)
@@ -85,14 +85,14 @@ pub gather-length : (row : List Station) (i : ℕ) → length (gathered row i) �
 unfolding gathered
 gather-length row i = omega (arith, length-take mostStations (take i row ++ replicate mostStations blank), length-append (take i row) (replicate mostStations blank), length-replicate mostStations blank)
 
--- the places of a bench
-pub bench-places : (row : List Station) → length (benchOf row .at) ≡ mostStations
-unfolding benchOf
-bench-places row = omega (arith, length-take mostStations (row ++ replicate mostStations blank), length-append row (replicate mostStations blank), length-replicate mostStations blank)
+-- the places of a held row
+pub held-places : (row : List Station) → length (heldOf row .at) ≡ mostStations
+unfolding heldOf
+held-places row = omega (arith, length-take mostStations (row ++ replicate mostStations blank), length-append row (replicate mostStations blank), length-replicate mostStations blank)
 
 -- a row of at most 32, and what is blank past it
-pub padded : (row : List Station) → length row ≤ mostStations → benchOf row .at ≡ row ++ replicate (mostStations - length row) blank
-unfolding benchOf
+pub padded : (row : List Station) → length row ≤ mostStations → heldOf row .at ≡ row ++ replicate (mostStations - length row) blank
+unfolding heldOf
 padded row h =
     let k : ℕ = mostStations - length row in
     enough row mostStations mostStations (mostStations - length row) (omega arith) (omega arith)
@@ -100,12 +100,12 @@ padded row h =
 
 -- ## Putting back
 
--- the row with the stations of a bench in its places
-unfoldable pub putBack : Bench → List Station → List Station
+-- the row with the stations of a held row in its places
+unfoldable pub putBack : HeldRow → List Station → List Station
 putBack b row = from (λ (i : ℕ). getD (b .at) i (getD row i blank)) 0 (length row)
 
 -- As many stations as there were.
-pub put-length : (b : Bench) (row : List Station) → length (putBack b row) ≡ length row
+pub put-length : (b : HeldRow) (row : List Station) → length (putBack b row) ≡ length row
 unfolding putBack
 put-length b row = from-length (λ (i : ℕ). getD (b .at) i (getD row i blank)) 0 (length row)
 
@@ -116,8 +116,8 @@ same-list l n e = ap (from (λ (i : ℕ). getD l i blank) 0) (sym e) ∙ from-li
     ident [] = refl
     ident (s ∷ l) = ap (λ (r : List Station). s ∷ r) (ident l)
 
--- A bench whose first places are a row of the same length is put back as that row.
-pub put-first : (b : Bench) (row new : List Station) → length new ≡ length row → take (length row) (b .at) ≡ new → putBack b row ≡ new
+-- A held row whose first places are a row of the same length is put back as that row.
+pub put-first : (b : HeldRow) (row new : List Station) → length new ≡ length row → take (length row) (b .at) ≡ new → putBack b row ≡ new
 unfolding putBack
 put-first b row new n e =
     from-same (λ (i : ℕ). getD (b .at) i (getD row i blank)) (λ (i : ℕ). getD new i blank) 0 (length row)
@@ -126,15 +126,15 @@ put-first b row new n e =
     ∙ getD-any new i (getD row i blank) blank (omega (arith, hi)))
     ∙ same-list new (length row) n
 
--- A row's own bench changes nothing, however long the row is.
-pub put-same : (row : List Station) → putBack (benchOf row) row ≡ row
-unfolding putBack benchOf
+-- A row's own held row changes nothing, however long the row is.
+pub put-same : (row : List Station) → putBack (heldOf row) row ≡ row
+unfolding putBack heldOf
 put-same row =
-    from-same (λ (i : ℕ). getD (benchOf row .at) i (getD row i blank)) (λ (i : ℕ). getD row i blank) 0 (length row) (λ i lo hi. go i (omega (arith, hi)) (upTo mostStations i))
+    from-same (λ (i : ℕ). getD (heldOf row .at) i (getD row i blank)) (λ (i : ℕ). getD row i blank) 0 (length row) (λ i lo hi. go i (omega (arith, hi)) (upTo mostStations i))
     ∙ same-list row (length row) refl
   where
-    go : (i : ℕ) → i < length row → (mostStations ≤ i) ⊎ (i < mostStations) → getD (benchOf row .at) i (getD row i blank) ≡ getD row i blank
-    go i h (inl k) = List·getD-eq-default (benchOf row .at) (getD row i blank) (omega (arith, bench-places row))
+    go : (i : ℕ) → i < length row → (mostStations ≤ i) ⊎ (i < mostStations) → getD (heldOf row .at) i (getD row i blank) ≡ getD row i blank
+    go i h (inl k) = List·getD-eq-default (heldOf row .at) (getD row i blank) (omega (arith, held-places row))
     go i h (inr k) =
         getD-take mostStations (row ++ replicate mostStations blank) i (getD row i blank) k
         ∙ List·getD-append row (replicate mostStations blank) (getD row i blank) i h

@@ -1,18 +1,18 @@
-// The calls on a lent row of stations, as document 01 names them. Each gathers the row into a bench, works on the bench by
+// The calls on a lent row of stations, as document 01 names them. Each gathers the row into a held row, works on the held row by
 // value, and puts it back.
 ghost use mathlib.Core.Path.{_≡_};
-ghost use Rattle.bench.specs.Promises.{LoadPromise, WithdrawPromise, ClockPromise, RoundPromise};
-ghost use Rattle.bench_row.specs.Benches.{benchOf};
+ghost use Rattle.bench.specs.Promise.{LoadPromise, WithdrawPromise, ClockPromise, RoundPromise};
+ghost use Rattle.bench_row.specs.HeldRows.{heldOf};
 ghost use Rattle.bench_lent.specs.Restoring.{putBack};
 use bench::Called;
 use bench::RoundAnswer;
 use bench::Station;
-use bench_row::Bench;
+use bench_row::HeldRow;
 use symbol::Clock;
 
-// The bench of a row: its first 32 stations, and how many it has.
-pub fn gathered(row: &[Station]) -> Bench
-    ensures { λ r. ⌜ r ≡ benchOf (now (row .entry)) ⌝ }
+// The held row of a lent one: its first 32 stations, and how many it has.
+pub fn gathered(row: &[Station]) -> HeldRow
+    ensures { λ r. ⌜ r ≡ heldOf (now (row .entry)) ⌝ }
 {
     let mut at = bench_row::blanks();
     let n = bench_row::kept(row.len());
@@ -25,14 +25,14 @@ pub fn gathered(row: &[Station]) -> Bench
     bench_row::bench_of(at, row.len())
 }
 
-// The row with the stations of a bench in its places.
-pub fn put_back(row: &mut [Station], bench: Bench)
-    ensures { λ _. ⌜ now (row .exit) ≡ putBack bench (now (row .entry)) ⌝ }
+// The row with the stations of a held row in its places.
+pub fn put_back(row: &mut [Station], held: HeldRow)
+    ensures { λ _. ⌜ now (row .exit) ≡ putBack held (now (row .entry)) ⌝ }
 {
     let mut i = 0;
     while i < row.len() {
         let station = row[i];
-        let next = bench_row::station_at(bench, i, station);
+        let next = bench_row::station_at(held, i, station);
         row[i] = next;
         i += 1;
     }
@@ -42,9 +42,9 @@ pub fn put_back(row: &mut [Station], bench: Bench)
 pub fn load(row: &mut [Station], place: usize, message: &[u8]) -> Called
     ensures { λ r. ⌜ LoadPromise place (now (message .entry)) (now (row .entry)) (now (row .exit)) r ⌝ }
 {
-    let bench = gathered(row);
-    let changed = bench_calls::load_on(bench, place, message);
-    put_back(row, changed.bench);
+    let held = gathered(row);
+    let changed = bench_calls::load_on(held, place, message);
+    put_back(row, changed.held);
     changed.called
 }
 
@@ -52,9 +52,9 @@ pub fn load(row: &mut [Station], place: usize, message: &[u8]) -> Called
 pub fn withdraw(row: &mut [Station], place: usize) -> Called
     ensures { λ r. ⌜ WithdrawPromise place (now (row .entry)) (now (row .exit)) r ⌝ }
 {
-    let bench = gathered(row);
-    let changed = bench_calls::withdraw_on(bench, place);
-    put_back(row, changed.bench);
+    let held = gathered(row);
+    let changed = bench_calls::withdraw_on(held, place);
+    put_back(row, changed.held);
     changed.called
 }
 
@@ -62,9 +62,9 @@ pub fn withdraw(row: &mut [Station], place: usize) -> Called
 pub fn set_clock(row: &mut [Station], place: usize, clock: Clock) -> Called
     ensures { λ r. ⌜ ClockPromise place clock (now (row .entry)) (now (row .exit)) r ⌝ }
 {
-    let bench = gathered(row);
-    let changed = bench_calls::set_clock_on(bench, place, clock);
-    put_back(row, changed.bench);
+    let held = gathered(row);
+    let changed = bench_calls::set_clock_on(held, place, clock);
+    put_back(row, changed.held);
     changed.called
 }
 
@@ -72,8 +72,8 @@ pub fn set_clock(row: &mut [Station], place: usize, clock: Clock) -> Called
 pub fn round(row: &mut [Station], words: &mut [u32]) -> RoundAnswer
     ensures { λ r. ⌜ RoundPromise (now (row .entry)) (now (row .exit)) (now (words .entry)) (now (words .exit)) r ⌝ }
 {
-    let bench = gathered(row);
-    let played = bench_round::round_on(bench, words);
-    put_back(row, played.bench);
+    let held = gathered(row);
+    let played = bench_round::round_on(held, words);
+    put_back(row, played.held);
     played.answer
 }

@@ -5,7 +5,7 @@ use mathlib.Core.Path.{_≡_, refl, sym, subst, ap, ap₂, _∙_}
 use mathlib.Core.Bool.{Bool, true, false, cond, not}
 use mathlib.Core.List.{List, [], _∷_, map}
 use native.Mathlib.Omega.{arith}
-use lib.Dec.{leb, ltb}
+use lib.Dec.{leb}
 use lib.ListN.{length, replicate}
 use lib.Seq.{sets}
 use borrow.Author.Tests.{leb-true, le-ltb, lt-ltb}
@@ -16,17 +16,17 @@ use Rattle.frame.specs.Writing.{mostWords}
 use Rattle.bench.specs.declared.Station.{Station}
 use Rattle.bench.specs.declared.Verdict.{Verdict}
 use Rattle.bench.specs.Stations.{mostStations, mostStored, sound}
-use Rattle.bench.specs.Round.{Seat, Course, asked, widthsOf, lasts, onLine, heard, nobodyAsks, mostBits, over, bitThen, play, faredAt}
-use Rattle.bench.specs.Contest.{entryOf, seatOf, verdictOf}
+use Rattle.bench.specs.Course.{Seat, Course, asked, widthsOf, lasts, onLine, heard, nobodyAsks, mostBits, over, bitThen, play, faredAt}
+use Rattle.bench.specs.Round.{entryOf, seatOf, verdictOf}
 use Rattle.bench.specs.Calls.{allSound}
 use Rattle.bench_line.specs.declared.Contended.{Contended}
 use Rattle.bench_line.specs.Lanes.{Lanes, lanesOf}
-use Rattle.bench_line.specs.Seats.{LanesOk, faresAt}
+use Rattle.bench_line.specs.Seats.{LanesOk}
 use Rattle.bench_line.specs.Sending.{courseOf, SendsBits}
 use Rattle.bench_line.specs.Entries.{widthOf, clippedCount, clippedFrame, lanesIn, verdictsAt}
 use Rattle.bench_line.specs.Stated.{clipped}
 use Rattle.bench_line.specs.Starting.{start-ok, start-seats}
-use Rattle.bench_line.specs.Contending.{courseOn, nobody, courseLent, ContendedIn, ContendedBy, nobodySent}
+use Rattle.bench_line.specs.Contending.{courseOn, courseLent, ContendedIn, ContendedBy, nobodySent}
 
 -- No second answer and no other words are what contending comes to.
 pub contended-settled : (row : List Station) {lent left left′ : List ℕ} {r s : Contended} → ContendedBy row lent left r → ContendedBy row lent left′ s → (r ≡ s) × (left ≡ left′)

@@ -11,8 +11,8 @@ use Rattle.frame.specs.Writing.{mostWords}
 use Rattle.bench.specs.declared.Station.{Station}
 use Rattle.bench.specs.declared.Fared.the-variants.{Idle}
 use Rattle.bench.specs.Stations.{mostStations}
-use Rattle.bench.specs.Round.{out, Course, over, mostBits, play, faredAt}
-use Rattle.bench.specs.Contest.{entryOf, seatOf, verdictOf}
+use Rattle.bench.specs.Course.{out, Course, over, mostBits, play, faredAt}
+use Rattle.bench.specs.Round.{entryOf, seatOf, verdictOf}
 use Rattle.bench_line.specs.declared.Contended.{Contended}
 use Rattle.bench_line.specs.Stated.{clipped}
 

@@ -8,7 +8,7 @@ use Rattle.checkbyte.specs.Register.{withCheck}
 use Rattle.bench.specs.declared.Station.{Station}
 use Rattle.bench.specs.declared.Verdict.{Verdict}
 use Rattle.bench.specs.Stations.{mostStored, stored, empty}
-use Rattle.bench.specs.Contest.{verdictOf}
+use Rattle.bench.specs.Round.{verdictOf}
 use Rattle.bench_line.specs.Lanes.{Lanes, lanesOf}
 use Rattle.bench_line.specs.Seats.{faresAt}
 use Rattle.bench_line.specs.Stated.{clipped}

@@ -11,7 +11,7 @@ use Rattle.checkbyte.specs.Register.{checkOf}
 use Rattle.bench.specs.declared.Station.{Station}
 use Rattle.bench.specs.declared.Verdict.{Verdict}
 use Rattle.bench.specs.Stations.{mostStations, mostStored, stored, blank}
-use Rattle.bench.specs.Contest.{verdictOf}
+use Rattle.bench.specs.Round.{verdictOf}
 use Rattle.loops.specs.Scan.{from, map-from, from-list, getD-any, filled, fill-start, fill-more, fill-all}
 use Rattle.bench_line.specs.Lanes.{mostSent}
 use Rattle.bench_line.specs.Seats.{faredIn, faresAt}

@@ -1,9 +1,9 @@
 -- Laws.
 -- Lanes and places agree, bit by bit: what a lane asks and what becomes of it is what the definition says of its place.
-use Prim.Native.Nat.{ℕ, zero, suc, _+_, _*_, _-_, _/_, _%_, _^_, _≤_, _<_, max}
+use Prim.Native.Nat.{ℕ, suc, _+_, _*_, _-_, _/_, _%_, _≤_, _<_, max}
 use mathlib.Core.Path.{_≡_, refl, sym, ap, _∙_}
 use mathlib.Core.Bool.{Bool, true, false, cond, not, Bool·beq}
-use mathlib.Core.List.{List, [], _∷_, _++_, map}
+use mathlib.Core.List.{List, [], _∷_, map}
 use native.Mathlib.Omega.{arith}
 use native.Mathlib.Numerals.{add-one}
 use lib.Dec.{eqb, leb, ltb}
@@ -12,12 +12,12 @@ use lib.Seq.{drop-cons, getD-take}
 use borrow.Author.Tests.{leb-true, leb-false, lt-ltb}
 use Rattle.symbol.specs.declared.Clock.{Clock}
 use Rattle.symbol.specs.Sending.{bitWidth}
-use Rattle.frame.specs.Bits.{odd, bitsOfByte, bitsOf}
-use Rattle.frame.specs.ByteLaws.{bits-length}
+use Rattle.frame.specs.Bits.{bitsOf}
+use Rattle.frame.specs.ByteLaws.{bits-length, bits-at}
 use Rattle.bench.specs.declared.Fared.the-variants.{Idle, Through, Lost}
 use Rattle.bench.specs.Stations.{mostStations}
-use Rattle.bench.specs.Round.{Pulse, Seat, out, on, asked, shortest, longest, heard, faredAt}
-use Rattle.bench.specs.Contest.{pulsesOf}
+use Rattle.bench.specs.Course.{Pulse, Seat, out, on, asked, shortest, longest, heard, faredAt}
+use Rattle.bench.specs.Round.{pulsesOf}
 use Rattle.bench_lane.specs.declared.Ask.{Ask}
 use Rattle.bench_lane.specs.declared.Ask.the-variants.{Out, Ended, Bit}
 use Rattle.loops.specs.Scan.{from, from-same, from-getD, map-from}
@@ -26,25 +26,6 @@ use Rattle.bench_line.specs.Lanes.{Lanes, laneAt, asksAt, allAsked, lost
 use Rattle.bench_line.specs.Seats.{LaneOk, LanesOk, clockAt, restAt, seatAt, seatsAt, faredIn, faresAt, askFor, askedBy}
 
 -- ## A bit of the bytes
-
-byte-at : (n : ℕ) (r : List Bool) (k : ℕ) → k < 8 → getD (bitsOfByte n ++ r) k false ≡ odd (n / 2 ^ (7 - k))
-byte-at n r zero h = refl
-byte-at n r (suc zero) h = refl
-byte-at n r (suc (suc zero)) h = refl
-byte-at n r (suc (suc (suc zero))) h = refl
-byte-at n r (suc (suc (suc (suc zero)))) h = refl
-byte-at n r (suc (suc (suc (suc (suc zero))))) h = refl
-byte-at n r (suc (suc (suc (suc (suc (suc zero)))))) h = refl
-byte-at n r (suc (suc (suc (suc (suc (suc (suc zero))))))) h = let e : n / 1 ≡ n = omega arith in ap odd (sym e)
-byte-at n r (suc (suc (suc (suc (suc (suc (suc (suc k)))))))) h = absurd (omega arith)
-
-bits-at : (ns : List ℕ) (i k : ℕ) → i < length ns → k < 8 → getD (bitsOf ns) (i * 8 + k) false ≡ odd (getD ns i 0 / 2 ^ (7 - k))
-unfolding bitsOf
-bits-at [] i k l h = absurd (omega arith)
-bits-at (n ∷ ns) zero k l h = ap (λ x. getD (bitsOf (n ∷ ns)) x false) (let e : 0 * 8 + k ≡ k = omega arith in e) ∙ byte-at n (bitsOf ns) k h
-bits-at (n ∷ ns) (suc i) k l h =
-    let e : suc i * 8 + k ≡ suc (suc (suc (suc (suc (suc (suc (suc (i * 8 + k)))))))) = omega arith in
-    ap (λ x. getD (bitsOf (n ∷ ns)) x false) e ∙ bits-at ns i k (omega arith) h
 
 -- bit j of bytes
 pub bit-at : (ns : List ℕ) (j : ℕ) → j < 8 * length ns → getD (bitsOf ns) j false ≡ bitOf (getD ns (j / 8) 0) j

@@ -11,8 +11,8 @@ use Rattle.frame.specs.Bits.{bitsOf}
 use Rattle.bench.specs.declared.Fared.{Fared}
 use Rattle.bench.specs.declared.Fared.the-variants.{Idle, Through, Lost}
 use Rattle.bench.specs.Stations.{mostStations}
-use Rattle.bench.specs.Round.{Pulse, Seat, out, on, widthsOf, lasts, nobodyAsks, mostBits}
-use Rattle.bench.specs.Contest.{pulsesOf}
+use Rattle.bench.specs.Course.{Pulse, Seat, out, on, widthsOf, lasts, nobodyAsks, mostBits}
+use Rattle.bench.specs.Round.{pulsesOf}
 use Rattle.bench_lane.specs.declared.Ask.{Ask}
 use Rattle.bench_lane.specs.declared.Ask.the-variants.{Out, Ended, Bit}
 use Rattle.bench_lane.specs.declared.LineAsk.{LineAsk}

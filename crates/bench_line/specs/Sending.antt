@@ -12,7 +12,7 @@ use borrow.Author.Tests.{not-true, not-false}
 use Rattle.laws.specs.Lent.{sets-then}
 use Rattle.frame.specs.Writing.{mostWords}
 use Rattle.bench.specs.Stations.{mostStations}
-use Rattle.bench.specs.Round.{Seat, asked, widthsOf, lasts, onLine, heard, Course, over, bitThen, nobodyAsks, mostBits, play, faredAt}
+use Rattle.bench.specs.Course.{Seat, asked, widthsOf, lasts, onLine, heard, Course, over, bitThen, nobodyAsks, mostBits, play, faredAt}
 use Rattle.bench_lane.specs.declared.LineAsk.{LineAsk}
 use Rattle.loops.specs.Scan.{from-length}
 use Rattle.bench_lane.specs.Lane.{askOf, lostBy}

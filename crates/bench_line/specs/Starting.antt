@@ -12,13 +12,13 @@ use borrow.Author.Tests.{ne-eqb}
 use Rattle.symbol.specs.declared.Clock.{Clock}
 use Rattle.symbol.specs.Sending.{bitWidth}
 use Rattle.checkbyte.specs.Register.{checkOf, withCheck}
-use Rattle.frame.specs.Bits.{bitsOfByte, bitsOf}
-use Rattle.frame.specs.ByteLaws.{bits-length}
+use Rattle.frame.specs.Bits.{bitsOf}
+use Rattle.frame.specs.ByteLaws.{bits-append, bits-length}
 use Rattle.bench.specs.declared.Station.{Station}
 use Rattle.bench.specs.declared.Fared.the-variants.{Idle, Lost}
 use Rattle.bench.specs.Stations.{mostStations, mostStored, Bits, stored, empty, blank}
-use Rattle.bench.specs.Round.{Pulse, Seat, out, on, mostBits}
-use Rattle.bench.specs.Contest.{absent, pulsesOf, holder, entryOf, seatOf}
+use Rattle.bench.specs.Course.{Pulse, Seat, out, on, mostBits}
+use Rattle.bench.specs.Round.{absent, pulsesOf, holder, entryOf, seatOf}
 use Rattle.loops.specs.Scan.{from, from-same, from-list}
 use Rattle.bench_line.specs.Lanes.{mostSent}
 use Rattle.bench_line.specs.Seats.{LanesOk, clockAt, restAt, seatAt, seatsAt}
@@ -31,11 +31,6 @@ at-map f (s ∷ row) zero d h = refl
 at-map f (s ∷ row) (suc i) d h = at-map f row i d (omega arith)
 
 -- ## The bits of a frame
-
-bits-append : (x y : List ℕ) → bitsOf (x ++ y) ≡ bitsOf x ++ bitsOf y
-unfolding bitsOf
-bits-append [] y = refl
-bits-append (n ∷ x) y = ap (λ (r : List Bool). bitsOfByte n ++ r) (bits-append x y)
 
 -- what is filled up after a message is not sent
 sent-part : (x y : List ℕ) → take (8 * length x) (bitsOf (x ++ y)) ≡ bitsOf x

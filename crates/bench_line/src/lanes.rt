@@ -11,7 +11,7 @@ ghost use Prim.Native.Nat.{_<_};
 ghost use mathlib.Core.Path.{_≡_};
 ghost use lib.ListN.{length};
 ghost use Rattle.bench.specs.Stations.{mostStations};
-ghost use Rattle.bench.specs.Round.{mostBits, onLine};
+ghost use Rattle.bench.specs.Course.{mostBits, onLine};
 ghost use Rattle.bench_lane.specs.Lane.{askOf};
 ghost use Rattle.bench_line.specs.Lanes.{lanesOf, laneAt, asksAt, allAsked, lostAll};
 use bench::MOST_SENT;

@@ -15,12 +15,12 @@ use Rattle.bench.specs.declared.Fared.{Fared}
 use Rattle.bench.specs.declared.Fared.the-variants.{Idle}
 use Rattle.bench.specs.declared.Verdict.{Verdict}
 use Rattle.bench.specs.Stations.{mostStations, blank}
-use Rattle.bench.specs.Round.{longest, Course, mostBits}
-use Rattle.bench.specs.Contest.{entryOf, sofsAsked, sumOf, roundOf, contestOf, verdictOf, verdictsOf, afterFare, afterFares}
+use Rattle.bench.specs.Course.{longest, Course, mostBits}
+use Rattle.bench.specs.Round.{entryOf, sofsAsked, sumOf, roundOf, roundAmong, verdictOf, verdictsOf, afterFare, afterFares}
 use Rattle.bench.specs.Calls.{allSound, written}
 use Rattle.bench.specs.RowLaws.{faresAgainst, row-fares, row-comes}
 use Rattle.bench.specs.RoundStated.{winnerOf}
-use Rattle.bench.specs.Promises.{RoundSaid, played}
+use Rattle.bench.specs.Promise.{RoundSaid, played}
 use Rattle.loops.specs.Scan.{from, from-same, filled, fill-more, fill-all, fold-start, fold-more, fold-all, getD-any}
 use Rattle.bench_line.specs.declared.Contended.{Contended}
 use Rattle.bench_line.specs.Contending.{courseOn, ContendedIn, ContendedBy}
@@ -64,7 +64,7 @@ module _ (at : List Station) (n : length at ≡ mostStations) (h : allSound at �
   front-length = omega (arith, sent .counts)
 
   all-words : roundOf at .words ≡ front ++ (end ∷ [])
-  unfolding roundOf contestOf front course courseOn
+  unfolding roundOf roundAmong front course courseOn
   all-words = rw q
 
   whole : length (front ++ (end ∷ [])) ≡ 3 + r .bits
@@ -93,7 +93,7 @@ module _ (at : List Station) (n : length at ≡ mostStations) (h : allSound at �
 
   -- .. and the sum of all but that end is its line time ..
   pub time-is : sumOf (take (2 + r .bits) (set mid (2 + r .bits) end)) ≡ roundOf at .lineTime
-  unfolding roundOf contestOf front course courseOn
+  unfolding roundOf roundAmong front course courseOn
   time-is =
       ap (λ (ws : List ℕ). sumOf (take (2 + r .bits) ws)) (closed ∙ append-assoc front (end ∷ []) (drop (3 + r .bits) old))
       ∙ ap sumOf (take-at front (end ∷ drop (3 + r .bits) old) (2 + r .bits) front-length)
@@ -104,7 +104,7 @@ module _ (at : List Station) (n : length at ≡ mostStations) (h : allSound at �
   time-bound = omega (arith, time-is, row-comes at h .bound)
 
   fares-are : r .verdicts ≡ map verdictOf (roundOf at .fares)
-  unfolding roundOf contestOf course courseOn
+  unfolding roundOf roundAmong course courseOn
   fares-are = sent .fares
 
   verdicts-are : r .verdicts ≡ verdictsOf (roundOf at .fares)

@@ -15,18 +15,18 @@ use Rattle.bench.specs.declared.Station.{Station}
 use Rattle.bench.specs.declared.RoundTold.{RoundTold}
 use Rattle.bench.specs.declared.RoundAnswer.{RoundAnswer}
 use Rattle.bench.specs.Stations.{mostStations}
-use Rattle.bench.specs.Round.{longest}
-use Rattle.bench.specs.Contest.{entryOf, sofsAsked, roundOf}
+use Rattle.bench.specs.Course.{longest}
+use Rattle.bench.specs.Round.{entryOf, sofsAsked, roundOf}
 use Rattle.bench.specs.Calls.{round, allSound, rulesOn, written}
-use Rattle.bench.specs.Promises.{toldNumber, RoundSaid, said, played, turnedAway}
-use Rattle.bench_row.specs.declared.Bench.{Bench}
+use Rattle.bench.specs.Promise.{toldNumber, RoundSaid, said, played, turnedAway}
+use Rattle.bench_row.specs.declared.HeldRow.{HeldRow}
 use Rattle.bench_row.specs.declared.survey.Survey.{Survey}
 use Rattle.bench_row.specs.Surveys.{surveyOf}
 use Rattle.bench_round.specs.Rounds.{roundNumber, numberOn, idleAll, afterVerdicts, PlayedBy}
 use Rattle.bench_round.specs.Playing.{fares-length, after-is}
 
 -- The rules answered: yes says whether they turned nothing away.
-module _ (b : Bench) (lent : List ℕ) (v : Survey) (e : v ≡ surveyOf (b .at)) (told : RoundTold) (p : toldNumber told ≡ roundNumber (b .count) v (length lent))
+module _ (b : HeldRow) (lent : List ℕ) (v : Survey) (e : v ≡ surveyOf (b .at)) (told : RoundTold) (p : toldNumber told ≡ roundNumber (b .count) v (length lent))
     (yes : Bool) (q : yes ≡ eqb (toldNumber told) 0) where
   number : toldNumber told ≡ numberOn b lent
   number = p ∙ ap (λ (x : Survey). roundNumber (b .count) x (length lent)) e
@@ -48,7 +48,7 @@ module _ (b : Bench) (lent : List ℕ) (v : Survey) (e : v ≡ surveyOf (b .at))
   -- It is played ..
   pub plays : yes ≡ true → length (b .at) ≡ mostStations → (answer : RoundAnswer) → said answer ≡ played (roundOf (b .at))
       → (after : List Station) → after ≡ afterVerdicts (b .at) (answer .verdicts) → (lent′ : List ℕ) → lent′ ≡ written (roundOf (b .at) .words) lent
-      → PlayedBy b lent lent′ (record { bench = record { at = after; count = b .count }; answer = answer })
+      → PlayedBy b lent lent′ (record { held = record { at = after; count = b .count }; answer = answer })
   plays t n answer s after f lent′ g =
       let so = f ∙ ap (afterVerdicts (b .at)) (ap (λ (x : RoundSaid). x .verdicts) s) ∙ after-is (b .at) (roundOf (b .at) .fares) n (fares-length (b .at) n (passed t .0)) in
       record {
@@ -58,7 +58,7 @@ module _ (b : Bench) (lent : List ℕ) (v : Survey) (e : v ≡ surveyOf (b .at))
       }
 
   -- .. and any other is turned away.
-  pub turns-away : yes ≡ false → (answer : RoundAnswer) → answer ≡ idleAll told → PlayedBy b lent lent (record { bench = b; answer = answer })
+  pub turns-away : yes ≡ false → (answer : RoundAnswer) → answer ≡ idleAll told → PlayedBy b lent lent (record { held = b; answer = answer })
   unfolding idleAll
   turns-away t answer f =
       record {

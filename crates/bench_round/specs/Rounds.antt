@@ -1,5 +1,5 @@
 -- Machinery.
--- A round on a row by value: what it answers, the bench after it, and the words that it leaves.
+-- A round on a row by value: what it answers, the held row after it, and the words that it leaves.
 use Prim.Native.Nat.{ℕ}
 use mathlib.Core.Path.{_≡_}
 use mathlib.Core.Bool.{cond}
@@ -13,10 +13,10 @@ use Rattle.bench.specs.declared.Verdict.{Verdict}
 use Rattle.bench.specs.declared.RoundTold.{RoundTold}
 use Rattle.bench.specs.declared.RoundAnswer.{RoundAnswer}
 use Rattle.bench.specs.Stations.{mostStations, blank}
-use Rattle.bench.specs.Contest.{roundOf, verdictOf, afterFare, afterFares}
+use Rattle.bench.specs.Round.{roundOf, verdictOf, afterFare, afterFares}
 use Rattle.bench.specs.Calls.{roundRules, written}
-use Rattle.bench.specs.Promises.{said, played, turnedAway}
-use Rattle.bench_row.specs.declared.Bench.{Bench}
+use Rattle.bench.specs.Promise.{said, played, turnedAway}
+use Rattle.bench_row.specs.declared.HeldRow.{HeldRow}
 use Rattle.bench_row.specs.declared.survey.Survey.{Survey}
 use Rattle.bench_round.specs.declared.Played.{Played}
 use Rattle.loops.specs.Scan.{from}
@@ -26,8 +26,8 @@ use Rattle.bench_row.specs.Surveys.{surveyOf}
 unfoldable pub roundNumber : ℕ → Survey → ℕ → ℕ
 roundNumber n v lent = firstRule (roundRules n (v .sound) lent (v .empty))
 
--- the same for a bench and lent words
-abbrev pub numberOn : Bench → List ℕ → ℕ
+-- the same for a held row and lent words
+abbrev pub numberOn : HeldRow → List ℕ → ℕ
 numberOn b lent = roundNumber (b .count) (surveyOf (b .at)) (length lent)
 
 -- an answer that is turned away: all places idle, no words, no time
@@ -43,7 +43,7 @@ unfoldable pub afterVerdicts : List Station → List Verdict → List Station
 afterVerdicts at verdicts = from (afterVerdict at verdicts) 0 mostStations
 
 -- what a round comes to: where no rule turns it away it is played
-pub record PlayedBy (b : Bench) (lent lent′ : List ℕ) (r : Played) : Type 0 where
+pub record PlayedBy (b : HeldRow) (lent lent′ : List ℕ) (r : Played) : Type 0 where
   pub says : said (r .answer) ≡ cond (eqb (numberOn b lent) 0) (played (roundOf (b .at))) (turnedAway (numberOn b lent))
-  pub leaves : r .bench ≡ cond (eqb (numberOn b lent) 0) (record { at = afterFares (roundOf (b .at) .fares) (b .at); count = b .count }) b
+  pub leaves : r .held ≡ cond (eqb (numberOn b lent) 0) (record { at = afterFares (roundOf (b .at) .fares) (b .at); count = b .count }) b
   pub lends : lent′ ≡ cond (eqb (numberOn b lent) 0) (written (roundOf (b .at) .words) lent) lent

@@ -7,10 +7,10 @@ ghost use mathlib.Core.List.{map};
 ghost use lib.Dec.{eqb};
 ghost use lib.ListN.{length, take};
 ghost use Rattle.frame.specs.Writing.{mostWords};
-ghost use Rattle.bench.specs.Round.{longest};
-ghost use Rattle.bench.specs.Contest.{entryOf, sofsAsked, roundOf, sumOf, afterFare};
+ghost use Rattle.bench.specs.Course.{longest};
+ghost use Rattle.bench.specs.Round.{entryOf, sofsAsked, roundOf, sumOf, afterFare};
 ghost use Rattle.bench.specs.Calls.{allSound, written};
-ghost use Rattle.bench.specs.Promises.{toldNumber, said, played};
+ghost use Rattle.bench.specs.Promise.{toldNumber, said, played};
 ghost use Rattle.bench_round.specs.Rounds.{roundNumber, afterVerdicts, idleAll, PlayedBy};
 use bench::Fared;
 use bench::MOST_STATIONS;
@@ -19,40 +19,37 @@ use bench::RoundTold;
 use bench::Station;
 use bench::Verdict;
 use bench_line::BEFORE_BITS;
-use bench_row::Bench;
+use bench_row::HeldRow;
 use bench_row::Survey;
 use frame::MOST_WORDS;
 use symbol::END_SENT;
 use units::Micros;
 
-// What a round answers, and the bench after it.
+// What a round answers, and the held row after it.
 pub struct Played {
-    pub bench: Bench,
+    pub held: HeldRow,
     pub answer: RoundAnswer,
 }
 
 // Plays a round.
-pub fn round_on(bench: Bench, words: &mut [u32]) -> Played
-    ensures { λ r. ⌜ PlayedBy bench (now (words .entry)) (now (words .exit)) r ⌝ }
+pub fn round_on(held: HeldRow, words: &mut [u32]) -> Played
+    ensures { λ r. ⌜ PlayedBy held (now (words .entry)) (now (words .exit)) r ⌝ }
 {
-    let at = bench.at;
+    let at = held.at;
     let survey = bench_row::survey_all(at);
-    let told = round_told(bench.count, survey, words.len());
+    let told = round_told(held.count, survey, words.len());
     if is_played(told) {
         let answer = play(at, survey.sof, words);
         let verdicts = answer.verdicts;
         let after = after_round(at, verdicts);
-        let next = Bench {
+        let next = HeldRow {
             at: after,
-            count: bench.count,
+            count: held.count,
         };
-        return Played {
-            bench: next,
-            answer,
-        };
+        return Played { held: next, answer };
     }
     let answer = turned_away(told);
-    Played { bench, answer }
+    Played { held, answer }
 }
 
 // Why a round is turned away, in document 01's order, or that it is played.

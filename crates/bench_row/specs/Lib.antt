@@ -3,4 +3,4 @@ pub mod SurveyLaws
 pub mod Whole
 -- Machinery.
 pub mod Surveys
-pub mod Benches
+pub mod HeldRows

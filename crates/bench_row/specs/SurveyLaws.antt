@@ -8,8 +8,8 @@ use native.Mathlib.Omega.{arith}
 use lib.ListN.{length, drop, getD}
 use Rattle.bench.specs.declared.Station.{Station}
 use Rattle.bench.specs.Stations.{mostStations, stored, empty, sound}
-use Rattle.bench.specs.Round.{longest}
-use Rattle.bench.specs.Contest.{absent, holder, entryOf, sofAsks, sofsAsked}
+use Rattle.bench.specs.Course.{longest}
+use Rattle.bench.specs.Round.{absent, holder, entryOf, sofAsks, sofsAsked}
 use Rattle.bench.specs.Calls.{allSound, allEmpty}
 use Rattle.bench_row.specs.declared.survey.Survey.{Survey}
 use Rattle.loops.specs.Scan.{fold-start, fold-more, fold-all}

@@ -5,8 +5,8 @@ use mathlib.Core.Bool.{cond, _&&_}
 use mathlib.Core.List.{List, map}
 use Rattle.bench.specs.declared.Station.{Station}
 use Rattle.bench.specs.Stations.{empty, sound}
-use Rattle.bench.specs.Round.{longest}
-use Rattle.bench.specs.Contest.{entryOf, sofsAsked}
+use Rattle.bench.specs.Course.{longest}
+use Rattle.bench.specs.Round.{entryOf, sofsAsked}
 use Rattle.bench.specs.Calls.{allSound, allEmpty}
 use Rattle.bench_row.specs.declared.survey.Survey.{Survey}
 

@@ -3,7 +3,7 @@ ghost use mathlib.Core.Path.{_≡_};
 ghost use Prim.Native.Nat.{min};
 ghost use lib.ListN.{getD, replicate};
 ghost use Rattle.bench.specs.Stations.{mostStations, blank};
-ghost use Rattle.bench.specs.Contest.{emptied};
+ghost use Rattle.bench.specs.Round.{emptied};
 use bench::MOST_STATIONS;
 use bench::Station;
 
@@ -16,7 +16,7 @@ pub use survey::survey_all;
 
 // A row of up to 32 stations, with blank ones past its end, and how many the row has. Where that is more than 32 the
 // rest of the row is not here: no call is taken on such a row.
-pub struct Bench {
+pub struct HeldRow {
     pub at: [Station; MOST_STATIONS],
     pub count: usize,
 }
@@ -30,7 +30,7 @@ pub fn blanks() -> [Station; MOST_STATIONS]
     at
 }
 
-// How many stations of a row of so many a bench keeps.
+// How many stations of a row of so many a held row keeps.
 pub fn kept(count: usize) -> usize
     ensures { λ r. ⌜ r ≡ min count mostStations ⌝ }
 {
@@ -41,19 +41,19 @@ pub fn kept(count: usize) -> usize
     }
 }
 
-// The bench of these stations, for a row of so many.
-pub fn bench_of(at: [Station; MOST_STATIONS], count: usize) -> Bench
+// The held row of these stations, for a row of so many.
+pub fn bench_of(at: [Station; MOST_STATIONS], count: usize) -> HeldRow
     ensures { λ r. ⌜ r ≡ record { at = at; count = count } ⌝ }
 {
-    Bench { at, count }
+    HeldRow { at, count }
 }
 
-// The station that the bench has at place i, or else the one that stands there.
-pub fn station_at(bench: Bench, i: usize, station: Station) -> Station
-    ensures { λ r. ⌜ r ≡ getD (bench .at) i station ⌝ }
+// The station that the held row has at place i, or else the one that stands there.
+pub fn station_at(held: HeldRow, i: usize, station: Station) -> Station
+    ensures { λ r. ⌜ r ≡ getD (held .at) i station ⌝ }
 {
     if i < MOST_STATIONS {
-        return bench.at[i];
+        return held.at[i];
     }
     station
 }

@@ -1,7 +1,7 @@
-// What the calls on a row of stations answer to other languages: the answers of the bench as structs of plain numbers.
+// What the calls on a row of stations answer to other languages: the answers of the held row as structs of plain numbers.
 ghost use mathlib.Core.Path.{_≡_};
 ghost use mathlib.Core.List.{map};
-ghost use Rattle.bench.specs.Promises.{calledNumber, toldNumber, said};
+ghost use Rattle.bench.specs.Promise.{calledNumber, toldNumber, said};
 ghost use Rattle.c_bench_answers.specs.Answers.{calledAs, verdictAs, roundAs};
 use bench::Called;
 use bench::Fared;

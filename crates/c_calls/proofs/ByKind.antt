@@ -9,7 +9,8 @@ use Rattle.symbol.specs.Clocks.{goodOf}
 use Rattle.symbol.specs.declared.Clock.{Clock}
 use Rattle.frame.specs.declared.Response.{Response}
 use Rattle.frame.specs.declared.Writing.{Writing}
-use Rattle.frame.specs.Writing.{turnedAway, writing, counted, counts, wordsAfter, WritePromise}
+use Rattle.frame.specs.Writing.{turnedAway, writing}
+use Rattle.frame.specs.WritePromise.{counted, counts, wordsAfter, WritePromise}
 use Rattle.frame_numbers.specs.Numbers.{kindOf}
 use Rattle.c_frame_answers.specs.Answers.{noSuchKind, sheetOf, countedAs}
 

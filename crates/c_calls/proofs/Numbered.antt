@@ -1,5 +1,5 @@
--- The call that makes a number of what the bench answers, which each call at a place ends with.
---     called-val, numbered-val     the machine values of the bench's answer, and of the number
+-- The call that makes a number of what the held row answers, which each call at a place ends with.
+--     called-val, numbered-val     the machine values of the held row's answer, and of the number
 --     calls-called-as              the call of `called_as`
 -- Assumes `Given`.
 use mathlib.Core.Path.{_≡_}
@@ -24,7 +24,7 @@ use denote.Triple.Statement.{Contract, Triple}
 use denote.Triple.Spec.{tripleOf}
 use denote.Triple.Clauses.{ensured, lasts}
 use Rattle.bench.specs.declared.Called.{Called}
-use Rattle.bench.specs.Promises.{calledNumber}
+use Rattle.bench.specs.Promise.{calledNumber}
 use Rattle.bench.proofs.Called as C
 use Rattle.bench.proofs.Called.Laws as C′
 use Rattle.walks.specs.Walk.{calls-plain}
@@ -41,7 +41,7 @@ called-val r = only (EL.vals C.the-type C′.the-laws r)
 abbrev pub numbered-val : CallAnswer → Val
 numbered-val = LL.val N.the-type N′.the-laws
 
--- the number of what the bench answers
+-- the number of what the held row answers
 abbrev pub numbered : Called → CallAnswer
 numbered r = calledAs (calledNumber r)
 

@@ -1,8 +1,8 @@
-// The calls on a lent row of stations. The row is handed on as it is lent: the bench works on it in place.
+// The calls on a lent row of stations. The row is handed on as it is lent: the held row works on it in place.
 ghost use mathlib.Core.Path.{_≡_};
 ghost use Rattle.bench.specs.Calls as Calls;
 ghost use Rattle.bench.specs.Calls.{numberOf, after, lentAfter};
-ghost use Rattle.bench.specs.Promises.{roundSays};
+ghost use Rattle.bench.specs.Promise.{roundSays};
 ghost use Rattle.c_bench_answers.specs.Answers.{calledAs, roundAs};
 use bench::Station;
 use c_bench_answers::CallAnswer;

@@ -5,12 +5,13 @@ use Prim.Native.Nat.{ℕ}
 use mathlib.Core.Bool.{Bool, cond, not}
 use mathlib.Core.List.{List}
 use lib.Dec.{ltb}
-use Rattle.volts.specs.Tracing as tracing
+use Rattle.volts.specs.Promise as tracing
 use Rattle.symbol.specs.declared.Clock.{Clock}
 use Rattle.symbol.specs.declared.Symbol.{Symbol}
 use Rattle.symbol.specs.Clocks.{goodOf}
 use Rattle.frame.specs.Writing as writing
-use Rattle.frame.specs.Answers.{Told}
+use Rattle.frame.specs.WritePromise.{Count}
+use Rattle.frame.specs.ReadPromise.{Told}
 use Rattle.frame_numbers.specs.Numbers.{symbolNumber, kindNumber, kindOf}
 use Rattle.desk_text.specs.Calls as desk
 use Rattle.c_frame_answers.specs.declared.Check.{Check}
@@ -47,7 +48,7 @@ sheetOf c main kind rs lent =
     cond (ltb 2 kind) (noSuchKind c) (writing.writing c main (kindOf kind) rs lent)
 
 -- the writer's number and count
-abbrev pub countedAs : writing.Count → Counted
+abbrev pub countedAs : Count → Counted
 countedAs n = record { number = n .number; count = n .count }
 
 -- what reading tells, the kind of the response by its number

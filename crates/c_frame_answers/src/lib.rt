@@ -1,9 +1,9 @@
 // What the calls on volts, frames and the desk's text, and the small questions, answer to other languages: structs of plain
 // numbers. The number of what came of a call stands first: document 01's, or one of the desk's own, 61 and 62.
 ghost use mathlib.Core.Path.{_≡_};
-ghost use Rattle.volts.specs.Tracing.{numbered};
-ghost use Rattle.frame.specs.Answers.{told, bare as bareTold};
-ghost use Rattle.frame.specs.Writing.{counted, counts};
+ghost use Rattle.volts.specs.Promise.{numbered};
+ghost use Rattle.frame.specs.ReadPromise.{told, bare as bareTold};
+ghost use Rattle.frame.specs.WritePromise.{counted, counts};
 ghost use Rattle.desk_text.specs.Calls.{answeredTold};
 ghost use Rattle.c_frame_answers.specs.Answers.{tracedAs, noSuchKind, countedAs, readAs, deskAs};
 use desk_text::Answered;

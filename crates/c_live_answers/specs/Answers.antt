@@ -2,7 +2,7 @@
 -- What the exported calls on a live reader give: its answers with the documents' number first.
 use Prim.Native.Nat.{ℕ}
 use mathlib.Core.List.{List, [], _∷_}
-use Rattle.frame.specs.Answers.{Told}
+use Rattle.frame.specs.ReadPromise.{Told}
 use Rattle.live.specs.declared.Heard.{Heard}
 use Rattle.live.specs.declared.Asked.{Asked}
 use Rattle.live.specs.Answers.{toldBy, askedTold}

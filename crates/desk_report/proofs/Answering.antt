@@ -10,7 +10,7 @@ use Rattle.frame.specs.declared.Reading.{Reading}
 use Rattle.frame.specs.declared.Reading.the-variants.{Frame, Quiet, Unfinished, Faulty}
 use Rattle.frame.specs.Faults.{mostBytes}
 use Rattle.frame.specs.Reading.{Good, Outcome, good, reading}
-use Rattle.frame.specs.Answers.{faultNumber, bare, told, tells, lentAfter, ReadPromise}
+use Rattle.frame.specs.ReadPromise.{faultNumber, bare, told, tells, lentAfter, ReadPromise}
 use Rattle.frame.specs.ReadSettled.{told-once}
 use Rattle.desk_text.specs.Grammar.{tab}
 use Rattle.desk_text.specs.Numerals.{decimal, hex}

@@ -11,7 +11,7 @@ use Rattle.frame.specs.declared.Response.the-variants.{Without, Plain, Checked}
 use Rattle.frame.specs.declared.Fault.{Fault}
 use Rattle.frame.specs.declared.Reading.{Reading}
 use Rattle.frame.specs.declared.Reading.the-variants.{Frame}
-use Rattle.frame.specs.Answers.{faultNumber}
+use Rattle.frame.specs.ReadPromise.{faultNumber}
 use Rattle.units.specs.declared.Place.{Place}
 use Rattle.desk_text.specs.Grammar.{newline, tab}
 use Rattle.desk_text.specs.Numerals.{decimal, hex}

@@ -10,7 +10,7 @@ use Rattle.frame.specs.declared.Response.{Response}
 use Rattle.frame.specs.declared.Fault.{Fault}
 use Rattle.frame.specs.declared.Reading.{Reading}
 use Rattle.frame.specs.declared.Reading.the-variants.{Frame, Quiet, Unfinished, Faulty, PastRecording, FewLentBytes}
-use Rattle.frame.specs.Answers.{faultNumber}
+use Rattle.frame.specs.ReadPromise.{faultNumber}
 use Rattle.desk_text.specs.Grammar.{newline, tab}
 use Rattle.desk_text.specs.Numerals.{decimal, hex}
 use Rattle.desk_text.specs.Report.{w-frame, w-quiet, w-unfinished, w-fault, w-none, lineOf, marked}

@@ -7,56 +7,22 @@ use mathlib.Core.List.{List}
 use native.Mathlib.Omega.{arith}
 use lib.ListN.{length}
 use borrow.Author.Tests.{eqb-false}
-use Rattle.symbol.specs.declared.Symbol.{Symbol}
-use Rattle.symbol.specs.declared.Symbol.the-variants.{Noise as NoiseWidth, Bit0, Bit1, Eod, Sof, Eof, Ifs, Break as BreakWidth, Stuck as StuckWidth}
 use Rattle.symbol.specs.Clocks.{nominalClock}
-use Rattle.frame.specs.declared.Fault.{Fault}
-use Rattle.frame.specs.declared.Fault.the-variants.{Noise, NoSof, Break, Stuck, LateSof, SplitByte, FewBytes, WrongCheck, EodAfterResponse, ThirteenthByte}
-use Rattle.frame.specs.Signs.{wrongOf}
-use Rattle.frame.specs.Line.{symbolAt, signOf, single, endAt}
-use Rattle.frame.specs.Standing.{Standing, stands}
+use Rattle.frame.specs.Line.{symbolAt, single, endAt}
+use Rattle.frame.specs.Standing.{stands}
 use Rattle.frame.specs.Faults.{mostBytes}
-use Rattle.frame.specs.Reading.{Good, Outcome, faultAt, frameAt, decided, reading}
+use Rattle.frame.specs.Reading.{Good, Outcome, frameAt, decided, reading}
 use Rattle.frame.specs.ShownLaws.{end-passive}
-use Rattle.frame.specs.Answers.{faultNumber}
 use Rattle.frame.specs.Outcomes.{comes}
-use Rattle.frame.specs.ReadStated.{Opens, ReadCase, isPast, isShort, isQuiet, isOpened, AtFaultOf, wrongItself, bitForSof, sofAgain, byteSplit, bytesFew, checkWrong, eodAfter, pastLimit}
+use Rattle.frame.specs.ReadStated.{Opens, ReadCase, isPast, isShort, isQuiet, isOpened}
 use Rattle.frame.specs.Decided.{Decision, isUnfinished, isGood, isFaulty, decision}
-use Rattle.frame.specs.EachFault.{fault-said}
+use Rattle.frame.specs.FaultLaws.{wrong-named, fault-named}
 use Rattle.frame.specs.Admitted.{admitted}
 use Rattle.frame.specs.WriteStated.{Admitted, WrittenAgain}
 use Rattle.frame.specs.Again.{written-again}
 use Rattle.frame.specs.Nominal.{withoutCheck, responseBare}
 use Rattle.frame.specs.WidthLaws.{frame-words-length}
 use Rattle.desk_text.specs.Stated.{Answer, isSilence, isOpen, isFrame, isFault}
-
--- ## A fault has one of ten numbers
-
-record Named (n : ℕ) : Type 0 where
-  fault-is : Fault
-  number-is : faultNumber fault-is ≡ n
-
--- what is wrong by itself
-wrong-named : (s : Symbol) (n : ℕ) → 0 < n → wrongOf (signOf s) ≡ n → Named n
-wrong-named NoiseWidth n h e = record { fault-is = Noise; number-is = e }
-wrong-named Bit0 n h e = absurd (omega (arith, h, e))
-wrong-named Bit1 n h e = absurd (omega (arith, h, e))
-wrong-named Eod n h e = absurd (omega (arith, h, e))
-wrong-named Sof n h e = absurd (omega (arith, h, e))
-wrong-named Eof n h e = absurd (omega (arith, h, e))
-wrong-named Ifs n h e = absurd (omega (arith, h, e))
-wrong-named BreakWidth n h e = record { fault-is = Break; number-is = e }
-wrong-named StuckWidth n h e = record { fault-is = Stuck; number-is = e }
-
-named : {st : Standing} (s : Symbol) {n : ℕ} → AtFaultOf mostBytes st (signOf s) n → Named n
-named s (wrongItself {n} h a) = wrong-named s n h a
-named s (bitForSof a b) = record { fault-is = NoSof; number-is = refl }
-named s (sofAgain a b) = record { fault-is = LateSof; number-is = refl }
-named s (byteSplit a b) = record { fault-is = SplitByte; number-is = refl }
-named s (bytesFew a b c) = record { fault-is = FewBytes; number-is = refl }
-named s (checkWrong a b c d) = record { fault-is = WrongCheck; number-is = refl }
-named s (eodAfter a b c d) = record { fault-is = EodAfterResponse; number-is = refl }
-named s (pastLimit a b c d) = record { fault-is = ThirteenthByte; number-is = refl }
 
 -- ## Places and sizes
 
@@ -87,7 +53,7 @@ answer-is ws p h = go (reading ws p mostBytes) (comes mostBytes (single ws) p mo
         let s = sized ws (frameAt (single ws) o k) (c .later) (written-again ws p mostBytes (frameAt (single ws) o k) e) in
         isFrame (op .from) (end-even ws o (op .end)) (s .far) (c .inside) (s .few)
     opened o op x (isFaulty {k} c f) e =
-        let n = named (symbolAt ws k) (fault-said mostBytes (stands (single ws) o k) (single ws .shows k) (faultAt mostBytes (single ws) o k) f .0 refl) in
+        let n = fault-named mostBytes (stands (single ws) o k) (single ws .shows k) (wrong-named (symbolAt ws k)) f in
         isFault (n .fault-is) (n .number-is) (op .from) (end-even ws o (op .end)) (c .later) (c .inside)
 
     go : (x : Outcome) → ReadCase mostBytes (single ws) p mostBytes x → reading ws p mostBytes ≡ x → Answer ws p x

@@ -15,7 +15,7 @@ use Rattle.frame.specs.declared.Fault.{Fault}
 use Rattle.frame.specs.declared.Fault.the-variants.{Noise, NoSof, Break, Stuck, LateSof, SplitByte, FewBytes, WrongCheck, EodAfterResponse, ThirteenthByte}
 use Rattle.frame.specs.Faults.{mostBytes}
 use Rattle.frame.specs.Reading.{Outcome, good, quiet, unfinished, faulty, refused, reading}
-use Rattle.frame.specs.Answers.{faultNumber}
+use Rattle.frame.specs.ReadPromise.{faultNumber}
 use Rattle.frame.specs.ReadStated.{goesOn}
 use Rattle.frame.specs.ReadingOn.{nextOf, ReadsOn, last, more, reads-on}
 use Rattle.label.specs.Labels.{mostLabel}

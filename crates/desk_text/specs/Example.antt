@@ -11,7 +11,7 @@ use Rattle.frame.specs.Standing.{stands}
 use Rattle.frame.specs.Faults.{checksOut, fault}
 use Rattle.frame.specs.Reading.{decides, readOn}
 use Rattle.frame.specs.ReadingOn.{answersBy, answersIn}
-use Rattle.frame.specs.WorkedReading.{ffff}
+use Rattle.frame.specs.Worked.{ffff}
 use Rattle.label.specs.Labels.{every, labelByte, isLabel}
 use Rattle.desk_text.specs.Grammar.{pieces, same, digit, spells, isWidth}
 use Rattle.desk_text.specs.Input.{lines, own, iv, ownLine, ivLine, ivAt, badFrom, widthsFrom}

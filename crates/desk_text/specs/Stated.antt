@@ -7,7 +7,7 @@ use mathlib.Core.Logic.{_↔_, _⊎_}
 use mathlib.Core.Path.{_≡_}
 use lib.ListN.{length}
 use Rattle.frame.specs.declared.Fault.{Fault}
-use Rattle.frame.specs.Answers.{faultNumber}
+use Rattle.frame.specs.ReadPromise.{faultNumber}
 use Rattle.frame.specs.Faults.{mostBytes}
 use Rattle.frame.specs.Reading.{Outcome, quiet, unfinished, Good, good, faulty}
 use Rattle.label.specs.Labels.{isLabel}

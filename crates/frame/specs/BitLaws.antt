@@ -17,6 +17,16 @@ use Rattle.frame.specs.Line.{Line, bitsFrom, bitsIn}
 use Rattle.frame.specs.Faults.{checksOut, whole}
 use Rattle.frame.specs.ReadStated.{leftOver, shiftedIn}
 
+-- No bits make no bytes ..
+pub bytes-none : bytes [] ≡ []
+unfolding bytes
+bytes-none = refl
+
+-- .. and leave nothing over: the partial byte is its leading 1.
+pub left-over-none : shiftedIn 1 (leftOver []) ≡ 1
+unfolding leftOver shiftedIn
+left-over-none = refl
+
 -- One bit more after them doubles the number and adds the bit.
 pub shifted-more : (n : ℕ) (bits : List Bool) (b : Bool) → shiftedIn n (bits ++ (b ∷ [])) ≡ shiftedIn n bits * 2 + value b
 unfolding shiftedIn

@@ -1,6 +1,6 @@
 -- Laws.
 -- Bytes as bits and back: nothing is lost either way.
-use Prim.Native.Nat.{ℕ, suc, _-_, _*_, _/_, _%_, _≤_, _<_}
+use Prim.Native.Nat.{ℕ, zero, suc, _+_, _-_, _*_, _/_, _%_, _^_, _≤_, _<_}
 use mathlib.Core.Path.{_≡_, refl, sym, ap, ap₂, _∙_}
 use mathlib.Core.Bool.{Bool, true, false}
 use mathlib.Core.List.{List, [], _∷_, _++_}
@@ -32,6 +32,38 @@ pub bytes-back : (ns : List ℕ) → Bytes ns → bytes (bitsOf ns) ≡ ns
 unfolding bytes bitsOf
 bytes-back [] h = refl
 bytes-back (n ∷ ns) h = rw (byte-back n (h .0), bytes-back ns (h .1))
+
+-- Bit k of a byte, the high bit first.
+bit-in : (n : ℕ) (r : List Bool) (k : ℕ) → k < 8 → getD (bitsOfByte n ++ r) k false ≡ odd (n / 2 ^ (7 - k))
+bit-in n r zero h = refl
+bit-in n r (suc zero) h = refl
+bit-in n r (suc (suc zero)) h = refl
+bit-in n r (suc (suc (suc zero))) h = refl
+bit-in n r (suc (suc (suc (suc zero)))) h = refl
+bit-in n r (suc (suc (suc (suc (suc zero))))) h = refl
+bit-in n r (suc (suc (suc (suc (suc (suc zero)))))) h = refl
+bit-in n r (suc (suc (suc (suc (suc (suc (suc zero))))))) h = let e : n / 1 ≡ n = omega arith in ap odd (sym e)
+bit-in n r (suc (suc (suc (suc (suc (suc (suc (suc k)))))))) h = absurd (omega arith)
+
+-- Bit k of byte i.
+pub bits-at : (ns : List ℕ) (i k : ℕ) → i < length ns → k < 8 → getD (bitsOf ns) (i * 8 + k) false ≡ odd (getD ns i 0 / 2 ^ (7 - k))
+unfolding bitsOf
+bits-at [] i k l h = absurd (omega arith)
+bits-at (n ∷ ns) zero k l h = ap (λ x. getD (bitsOf (n ∷ ns)) x false) (let e : 0 * 8 + k ≡ k = omega arith in e) ∙ bit-in n (bitsOf ns) k h
+bits-at (n ∷ ns) (suc i) k l h =
+    let e : suc i * 8 + k ≡ suc (suc (suc (suc (suc (suc (suc (suc (i * 8 + k)))))))) = omega arith in
+    ap (λ x. getD (bitsOf (n ∷ ns)) x false) e ∙ bits-at ns i k (omega arith) h
+
+-- The bits of bytes and of bytes after them.
+pub bits-append : (x y : List ℕ) → bitsOf (x ++ y) ≡ bitsOf x ++ bitsOf y
+unfolding bitsOf
+bits-append [] y = refl
+bits-append (n ∷ x) y = ap (λ (r : List Bool). bitsOfByte n ++ r) (bits-append x y)
+
+-- The bits of a byte and of bytes after it.
+pub bits-cons : (n : ℕ) (ns : List ℕ) → bitsOf (n ∷ ns) ≡ bitsOfByte n ++ bitsOf ns
+unfolding bitsOf
+bits-cons n ns = refl
 
 -- Each byte has eight bits.
 pub bits-length : (ns : List ℕ) → length (bitsOf ns) ≡ 8 * length ns

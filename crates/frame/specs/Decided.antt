@@ -56,9 +56,15 @@ earliest-found limit l o k e d =
 
 -- ## What the earliest interval gives
 
-faults : (limit : ℕ) (l : Line) (o k : ℕ) → 0 < faultAt limit l o k → decides limit l o k ≡ true
+-- An interval at fault decides ..
+pub fault-decides : (limit : ℕ) (l : Line) (o k : ℕ) → 0 < faultAt limit l o k → decides limit l o k ≡ true
 unfolding decides
-faults limit l o k h = rw (ne-eqb (faultAt limit l o k) 0 (λ e. omega arith))
+fault-decides limit l o k h = rw (ne-eqb (faultAt limit l o k) 0 (λ e. omega arith))
+
+-- .. and one that is not decides where it is an end.
+pub end-decides : (limit : ℕ) (l : Line) (o k : ℕ) → faultAt limit l o k ≡ 0 → decides limit l o k ≡ endAt l k
+unfolding decides
+end-decides limit l o k e = rw e
 
 ends : (limit : ℕ) (l : Line) (o k : ℕ) → endAt l k ≡ true → decides limit l o k ≡ true
 unfolding decides
@@ -71,7 +77,7 @@ ends limit l o k h = rw h (go (eqb (faultAt limit l o k) 0))
 -- The earliest interval that is at fault gives its fault.
 pub decides-faulty : (limit : ℕ) (l : Line) (o k : ℕ) → Earliest limit l o k → 0 < faultAt limit l o k → decided limit l o ≡ faulty (faultAt limit l o k) k
 decides-faulty limit l o k e h =
-    rw (earliest-found limit l o k e (faults limit l o k h), ne-eqb (faultAt limit l o k) 0 (λ z. omega arith))
+    rw (earliest-found limit l o k e (fault-decides limit l o k h), ne-eqb (faultAt limit l o k) 0 (λ z. omega arith))
 
 -- The earliest end that is not at fault closes the frame.
 pub decides-good : (limit : ℕ) (l : Line) (o k : ℕ) → Earliest limit l o k → faultAt limit l o k ≡ 0 → endAt l k ≡ true

@@ -6,7 +6,7 @@ use mathlib.Core.Bool.{Bool, true, false, cond}
 use mathlib.Core.Logic.{_⊎_, inl, inr}
 use native.Mathlib.Omega.{arith}
 use native.Mathlib.Nat.{add-zero, eq-or-lt-of-le}
-use Rattle.frame.specs.Line.{Found, nowhere, at, first, firstIn}
+use Rattle.frame.specs.Line.{Line, endAt, opening, Found, nowhere, at, first, firstIn}
 use Rattle.frame.specs.ReadStated.{IsFirst}
 
 -- no place is both found and nowhere
@@ -90,3 +90,13 @@ first-next test i k h =
 pub first-empty : (test : ℕ → Bool) (i k : ℕ) → k ≤ i → firstIn test i k ≡ nowhere
 unfolding first
 first-empty test i k h = let n : k - i ≡ 0 = omega arith in ap (first test i) n
+
+-- One place: it is the first, or the first is looked for after it.
+pub first-here : (test : ℕ → Bool) (i n : ℕ) (b : Bool) → i < n → test i ≡ b → firstIn test i n ≡ cond b (at i) (firstIn test (i + 1) n)
+unfolding first
+first-here test i n b h e = let m : n - i ≡ suc (n - (i + 1)) = omega arith in rw (m, e)
+
+-- The opening is the first end at or after the position.
+pub opening-is : (l : Line) (p : ℕ) → opening l p ≡ firstIn (endAt l) p (l .count)
+unfolding opening
+opening-is l p = refl

@@ -15,7 +15,7 @@ use Rattle.frame.specs.Bits.{bytes, bitsOf}
 use Rattle.frame.specs.Standing.{plain, checked, Standing, atSof, inMain, atNormalization, inResponse, withBits, counted, moved}
 use Rattle.frame.specs.Faults.{facts, partBytes, checksOut, whole, fault}
 use Rattle.frame.specs.WidthLaws.{with-check-length}
-use Rattle.frame.specs.FaultRuleLaws.{no-fault-is}
+use Rattle.frame.specs.FaultLaws.{no-fault-is}
 use Rattle.frame.specs.ByteLaws.{bytes-few, bytes-back, bits-length, with-checks, with-bytes}
 use Rattle.frame.specs.Passing.{Passes, stay, pass, Closes, close, on}
 use Rattle.frame.specs.ReadStated.{Complete, ChecksRight}

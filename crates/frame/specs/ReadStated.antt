@@ -2,18 +2,16 @@
 -- What the theorems on reading are stated with: what is so where an answer is given, and of which interval.
 use Prim.Native.Nat.{ℕ, _≤_, _<_, _+_, _*_, _-_, _%_}
 use mathlib.Core.Bool.{Bool, true, false, _&&_, not}
-use mathlib.Core.List.{List, [], _∷_, _++_}
+use mathlib.Core.List.{List, [], _∷_}
 use mathlib.Core.Path.{_≡_}
 use lib.ListN.{length}
 use Rattle.symbol.specs.declared.Symbol.the-variants.{Noise, Break, Stuck}
 use Rattle.symbol.specs.Classes.{Window}
 use Rattle.frame.specs.Bits.{value}
-use Rattle.frame.specs.Faults.{facts, partBytes, checksOut, mainBytes, responseBytes}
+use Rattle.frame.specs.Faults.{facts, partBytes, checksOut, FirstFault}
 use Rattle.frame.specs.Line.{Line, endAt}
 use Rattle.frame.specs.Reading.{faultAt, Good, frameAt, Outcome, refused, quiet, decided, good, unfinished, faulty}
-use Rattle.frame.specs.FaultRules.{FirstFault}
-use Rattle.frame.specs.Signs.{Sign, wrongOf, isBit, isSof, shuts, isEod}
-use Rattle.frame.specs.Standing.{stands, Standing, counted}
+use Rattle.frame.specs.Standing.{stands, Standing}
 
 -- k is the first of the n places from i on at which the test holds
 pub record IsFirst (test : ℕ → Bool) (i n k : ℕ) : Type 0 where
@@ -85,6 +83,16 @@ goesOn (unfinished opening) = false
 goesOn (faulty number next) = true
 goesOn (refused number) = false
 
+-- 0: an end closes the frame that opens. It is the earliest interval that decides, and at no fault.
+pub record Closes (limit : ℕ) (l : Line) (p lent : ℕ) : Type 0 where
+  pub enough : limit ≤ lent
+  pub opening : ℕ
+  pub opens : Opens l p opening
+  pub closing : ℕ
+  pub earliest : Earliest limit l opening closing
+  pub no-fault : faultAt limit l opening closing ≡ 0
+  pub end : endAt l closing ≡ true
+
 -- 1: "quiet: no opening, or no interval after it", where neither 31 nor 32 applies
 pub record Silent (limit : ℕ) (l : Line) (p lent : ℕ) : Type 0 where
   pub inside : p ≤ l .count
@@ -109,6 +117,13 @@ pub record ReadsFault (limit : ℕ) (l : Line) (p lent n k : ℕ) : Type 0 where
   pub opens : Opens l p opening
   pub at-fault : AtFault limit l opening n k
 
+-- What has to be so for reading to answer the number n: the rows of the table "What reading answers".
+pub data Answers (limit : ℕ) (l : Line) (p lent : ℕ) : ℕ → Type 0 where
+  isClosed : Closes limit l p lent → Answers limit l p lent 0
+  isSilent : Silent limit l p lent → Answers limit l p lent 1
+  isUnclosed : {o : ℕ} → Unclosed limit l p lent o → Answers limit l p lent 2
+  isAtFault : {n k : ℕ} → 10 < n → ReadsFault limit l p lent n k → Answers limit l p lent n
+
 -- The place k, counted from o, as it is counted from o'.
 abbrev pub shifted : (o o' k : ℕ) → ℕ
 shifted o o' k = o' + (k - o)
@@ -130,28 +145,6 @@ pub record Complete (st : Standing) : Type 0 where
 -- They end with the right check byte, where the part has one.
 abbrev pub ChecksRight : Standing → Type 0
 ChecksRight st = (facts st .hasCheck && not (checksOut (partBytes st))) ≡ false
-
--- The interval that shows s and stands at st is at fault n, where a frame has at most `limit` bytes.
-pub data AtFaultOf (limit : ℕ) (st : Standing) (s : Sign) : ℕ → Type 0 where
-  -- 11, 13, 14: it is wrong by itself
-  wrongItself : {n : ℕ} → 0 < n → wrongOf s ≡ n → AtFaultOf limit st s n
-  -- 12: it is a bit at the SOF's place
-  bitForSof : facts st .sofPlace ≡ true → isBit s ≡ true → AtFaultOf limit st s 12
-  -- 15: it is a SOF, and not at the SOF's place
-  sofAgain : facts st .sofPlace ≡ false → isSof s ≡ true → AtFaultOf limit st s 15
-  -- 16: it is an EOD or end, after 1 to 7 bits of a byte
-  byteSplit : shuts s ≡ true → ¬ (length (facts (counted st s) .part) % 8 ≡ 0) → AtFaultOf limit st s 16
-  -- 17: it is an EOD or end, after whole bytes that are too few for their part
-  bytesFew : shuts s ≡ true → length (facts (counted st s) .part) % 8 ≡ 0 → length (partBytes (counted st s)) < facts (counted st s) .fewest
-      → AtFaultOf limit st s 17
-  -- 18: it is an EOD or end, after a complete part whose last byte is not the check byte that it should be
-  checkWrong : shuts s ≡ true → Complete (counted st s) → facts (counted st s) .hasCheck ≡ true → checksOut (partBytes (counted st s)) ≡ false
-      → AtFaultOf limit st s 18
-  -- 19: it is an EOD after a complete response whose check is right
-  eodAfter : isEod s ≡ true → facts (counted st s) .responding ≡ true → Complete (counted st s) → ChecksRight (counted st s) → AtFaultOf limit st s 19
-  -- 20: it is a bit of a byte, after as many whole bytes as a frame may have
-  pastLimit : isBit s ≡ true → facts st .sofPlace ≡ false → facts st .inPart ≡ true → length (mainBytes st ++ responseBytes st) ≡ limit
-      → AtFaultOf limit st s 20
 
 -- the same frame, opened at a place of its own
 abbrev pub putAt : Good → ℕ → Good

@@ -12,7 +12,7 @@ use Rattle.laws.specs.Tests.{never}
 use Rattle.frame.specs.Line.{Line, single, endAt, at, opening}
 use Rattle.frame.specs.Reading.{Good, Outcome, good, decided, readOn}
 use Rattle.frame.specs.Faults.{mostBytes}
-use Rattle.frame.specs.Answers.{tells}
+use Rattle.frame.specs.ReadPromise.{tells}
 use Rattle.frame.specs.FirstLaws.{at-first}
 use Rattle.frame.specs.Decided.{Decision, isUnfinished, isGood, isFaulty, decision, good-at}
 use Rattle.frame.specs.ReadStated.{GoodAt, ReadCase, isPast, isShort, isQuiet, isOpened, goesOn}

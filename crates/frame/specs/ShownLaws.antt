@@ -1,6 +1,6 @@
 -- Laws.
 -- What the line of document 01 shows, by its widths: which intervals are ends, and which are wrong by themselves.
-use Prim.Native.Nat.{ℕ, _≤_, _<_}
+use Prim.Native.Nat.{ℕ, _<_}
 use mathlib.Core.Path.{_≡_, refl, sym, ap, _∙_}
 use mathlib.Core.Bool.{Bool, true, false, not}
 use mathlib.Core.List.{List}
@@ -85,14 +85,7 @@ shows-wrong active w n h = (there (classOf active w) (class-in active w), back)
     back (isBreak k) = rw (class-only active Break w k)
     back (isStuck k) = rw (class-only active Stuck w k)
 
--- None of them has a number above 20.
-pub wrong-small : (s : Symbol) → wrongOf (signOf s) ≤ 20
-wrong-small Noise = omega arith
-wrong-small Bit0 = omega arith
-wrong-small Bit1 = omega arith
-wrong-small Eod = omega arith
-wrong-small Sof = omega arith
-wrong-small Eof = omega arith
-wrong-small Ifs = omega arith
-wrong-small Break = omega arith
-wrong-small Stuck = omega arith
+-- A place shows what the symbol of its width is, at the level of the place.
+pub shows-class : (ws : List ℕ) (k : ℕ) → single ws .shows k ≡ signOf (classOf (activeAt k) (getD ws k 0))
+unfolding symbolAt
+shows-class ws k = refl

@@ -28,7 +28,7 @@ use Rattle.frame.specs.ReadStated.{Undecided}
 use Rattle.frame.specs.Waves.{bitSymbols}
 use Rattle.frame.specs.WaveLaws.{carry-append, level-turns, bit-shown}
 use Rattle.frame.specs.Parts.{shut-complete}
-use Rattle.frame.specs.FaultRuleLaws.{no-fault-is}
+use Rattle.frame.specs.FaultLaws.{no-fault-is}
 use Rattle.frame.specs.WriteStated.{normalization, spelled, Sound, Reached}
 
 -- ## One symbol further

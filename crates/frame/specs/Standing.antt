@@ -6,8 +6,6 @@ use Prim.Native.Nat.{ℕ, _+_}
 use mathlib.Core.Bool.{Bool, true, false, cond}
 use mathlib.Core.List.{List, [], _∷_, _++_}
 use lib.Dec.{eqb}
-use Rattle.frame.specs.declared.Response.{Response}
-use Rattle.frame.specs.declared.Response.the-variants.{Plain, Checked}
 use Rattle.frame.specs.Signs.{Sign, bitsShown, isEod}
 use Rattle.frame.specs.Line.{Line, Found, nowhere, at, firstIn, bitsIn}
 
@@ -20,11 +18,6 @@ pub data Kind : Type 0 where
 abbrev pub kindBy : Bool → Kind
 kindBy true = plain
 kindBy false = checked
-
--- the response that a kind is
-abbrev pub responseOf : Kind → Response
-responseOf plain = Plain
-responseOf checked = Checked
 
 -- The place of an interval in its frame, with the bits of each part that stand before it.
 pub data Standing : Type 0 where

@@ -3,10 +3,9 @@
 -- promises, so it holds of whatever meets them.
 use Prim.Native.Nat.{ℕ, _+_, _-_, _≤_, _<_}
 use mathlib.Core.Path.{_≡_, refl, sym, ap, _∙_}
-use mathlib.Core.Bool.{Bool, true, false}
+use mathlib.Core.Bool.{true, false}
 use mathlib.Core.List.{List, [], _++_, append-assoc}
 use native.Mathlib.Omega.{arith}
-use lib.Dec.{ltb}
 use lib.ListN.{length, drop}
 use lib.Seq.{take-append-le, take-append-seam, drop-append-seam}
 use Rattle.checkbyte.specs.Register.{withCheck, Bytes}
@@ -23,57 +22,44 @@ use Rattle.frame.specs.declared.Writing.the-variants.{Words}
 use Rattle.frame.specs.Line.{single}
 use Rattle.frame.specs.Faults.{mostBytes}
 use Rattle.frame.specs.Reading.{Good, Outcome, good, frameAt, reading}
-use Rattle.frame.specs.Answers.{told, tells, lentAfter, ReadPromise}
-use Rattle.frame.specs.Writing.{Sheet, words, writing, mostWords, responseSent, frameSent, frameWords, badMessage, counted, counts, wordsAfter, WritePromise}
+use Rattle.frame.specs.ReadPromise.{told, tells, lentAfter, ReadPromise}
+use Rattle.frame.specs.Writing.{Sheet, words, writing, mostWords, responseSent, frameSent, frameWords, badMessage}
+use Rattle.frame.specs.WritePromise.{counted, counts, wordsAfter, WritePromise}
 use Rattle.frame.specs.Nominal.{withoutCheck, nominalIntervals, responseBare}
 use Rattle.frame.specs.Decided.{Decision, isUnfinished, isGood, isFaulty, decision}
 use Rattle.frame.specs.Outcomes.{comes}
 use Rattle.frame.specs.ReadStated.{ReadCase, isPast, isShort, isQuiet, isOpened}
 use Rattle.frame.specs.WriteSettled.{counted-once}
+use Rattle.frame.specs.WriteExactlyWhen.{writes-words}
 use Rattle.frame.specs.WrittenBack.{reads-written}
 use Rattle.frame.specs.Again.{written-again, writes-again}
 use Rattle.frame.specs.WriteStated.{WrittenAgain, mainTaken, responseTaken}
 
 -- ## What is written is read back
 
--- what a call that wrote something shows of its message and clock
-record Wrote (c : Clock) (main : List ℕ) (kind : Response) (rs : List ℕ) (lent : ℕ) : Type 0 where
-  good-clock : goodOf c ≡ true
-  admitted : badMessage main kind rs ≡ false
-  sheet : writing c main kind rs lent ≡ words (frameWords c main kind rs)
-
-wrote : (c : Clock) (main : List ℕ) (kind : Response) (rs : List ℕ) (lent n : ℕ)
-    → counted (Words n) ≡ counts (writing c main kind rs lent) → Wrote c main kind rs lent
-unfolding writing
-wrote c main kind rs lent n e = go (goodOf c) (badMessage main kind rs) (ltb lent mostWords) refl refl refl
-  where
-    go : (g b l : Bool) → goodOf c ≡ g → badMessage main kind rs ≡ b → ltb lent mostWords ≡ l → Wrote c main kind rs lent
-    go false b l p q r = let z : _≡_ {A = ℕ} 0 36 = ap (λ x. x .number) (rw p at e) in absurd (omega arith)
-    go true true l p q r = let z : _≡_ {A = ℕ} 0 37 = ap (λ x. x .number) (rw (p, q) at e) in absurd (omega arith)
-    go true false true p q r = let z : _≡_ {A = ℕ} 0 32 = ap (λ x. x .number) (rw (p, q, r) at e) in absurd (omega arith)
-    go true false false p q r = record { good-clock = p; admitted = q; sheet = rw (p, q, r) }
-
--- A message is written into lent words, and the lent words, whatever stands after the frame in them, are read from the
--- start: the answer is a frame with the message's own lengths, kind and places, and its bytes stand first in the lent bytes.
-pub write-then-read : (c : Clock) (main : List ℕ) (kind : Response) (rs : List ℕ) (entry exit : List ℕ) (n : ℕ)
-    → WritePromise c main kind rs entry exit (Words n) → Bytes main → Bytes rs
-    → (lent left : List ℕ) (answer : Reading) → ReadPromise exit 0 lent left answer → mostBytes ≤ length lent
-    → (told answer ≡ tells (good (frameSent main kind rs 0 (n - 1))))
+-- A message that document 01 admits is written at a good clock into words enough, and the lent words, whatever stands after the
+-- frame in them, are read from the start with bytes enough lent. Both calls answer: the first with the frame's words, the second
+-- with a frame of the message's own lengths, kind and places, whose bytes stand first in the lent bytes.
+pub written-then-read : (c : Clock) (main : List ℕ) (kind : Response) (rs : List ℕ) → goodOf c ≡ true → badMessage main kind rs ≡ false → Bytes main → Bytes rs
+    → (entry exit : List ℕ) (wrote : Writing) → mostWords ≤ length entry → WritePromise c main kind rs entry exit wrote
+    → (lent left : List ℕ) (answer : Reading) → mostBytes ≤ length lent → ReadPromise exit 0 lent left answer
+    → (wrote ≡ Words (length (frameWords c main kind rs)))
+    × (told answer ≡ tells (good (frameSent main kind rs 0 (length (frameWords c main kind rs) - 1))))
     × (left ≡ (withCheck main ++ responseSent kind rs) ++ drop (length (withCheck main ++ responseSent kind rs)) lent)
-write-then-read c main kind rs entry exit n w mb rb lent left answer r enough =
-    (r .tells-it ∙ ap tells is, r .lends-it ∙ ap (λ (x : Outcome). lentAfter x lent) is)
+written-then-read c main kind rs g b mb rb entry exit wrote words-enough w lent left answer bytes-enough r = (
+  counted-once wrote (Words (length (frameWords c main kind rs))) (w .counts-it ∙ ap counts sheet),
+  r .tells-it ∙ ap tells is,
+  r .lends-it ∙ ap (λ (x : Outcome). lentAfter x lent) is,
+)
   where
-    facts : Wrote c main kind rs (length entry)
-    facts = wrote c main kind rs (length entry) n (w .counts-it)
-
-    count : n ≡ length (frameWords c main kind rs)
-    count = ap (λ x. x .count) (w .counts-it ∙ ap counts (facts .sheet))
+    sheet : writing c main kind rs (length entry) ≡ words (frameWords c main kind rs)
+    sheet = writes-words c main kind rs (length entry) g b words-enough
 
     line : exit ≡ frameWords c main kind rs ++ drop (length (frameWords c main kind rs)) entry
-    line = w .lends-it ∙ ap (λ (s : Sheet). wordsAfter s entry) (facts .sheet)
+    line = w .lends-it ∙ ap (λ (s : Sheet). wordsAfter s entry) sheet
 
-    is : reading exit 0 (length lent) ≡ good (frameSent main kind rs 0 (n - 1))
-    is = rw (line, count) (reads-written c [] (drop (length (frameWords c main kind rs)) entry) main kind rs (length lent) (facts .good-clock) (facts .admitted) mb rb refl enough
+    is : reading exit 0 (length lent) ≡ good (frameSent main kind rs 0 (length (frameWords c main kind rs) - 1))
+    is = rw line (reads-written c [] (drop (length (frameWords c main kind rs)) entry) main kind rs (length lent) g b mb rb refl bytes-enough
         ∙ ap (λ (k : ℕ). good (frameSent main kind rs 0 k)) (omega arith))
 
 -- ## What is read is written again

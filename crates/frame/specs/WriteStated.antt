@@ -1,6 +1,6 @@
 -- Definitions.
 -- What the theorems on writing, on reading back and on writing again are stated with.
-use Prim.Native.Nat.{ℕ, _<_, _≤_, _+_, _-_}
+use Prim.Native.Nat.{ℕ, _≤_, _+_, _-_}
 use mathlib.Core.Bool.{false, true, Bool}
 use mathlib.Core.List.{List, [], _∷_, _++_}
 use mathlib.Core.Path.{_≡_}

@@ -1,12 +1,11 @@
 -- Definitions.
 -- Writing a frame: document 01, "Writing and the bench", first paragraph, and refusals 36, 37, 32.
 use Prim.Native.Nat.{ℕ, _+_}
-use mathlib.Core.Path.{_≡_}
 use mathlib.Core.Bool.{Bool, true, false, cond, not, _||_}
 use mathlib.Core.List.{List, [], _∷_, _++_}
 use lib.Dec.{eqb, ltb}
-use lib.ListN.{length, drop}
-use Rattle.laws.specs.Meant.{set, unset, below}
+use lib.ListN.{length}
+use Rattle.laws.specs.Meant.{Test, set, unset, below}
 use Rattle.laws.specs.Rules.{Rule, rule, firstRule}
 use Rattle.symbol.specs.declared.Clock.{Clock}
 use Rattle.symbol.specs.Clocks.{goodOf}
@@ -14,8 +13,6 @@ use Rattle.symbol.specs.Sending.{bitWidth, endWidth}
 use Rattle.checkbyte.specs.Register.{withCheck}
 use Rattle.frame.specs.declared.Response.{Response}
 use Rattle.frame.specs.declared.Response.the-variants.{Without, Plain, Checked}
-use Rattle.frame.specs.declared.Writing.{Writing}
-use Rattle.frame.specs.declared.Writing.the-variants.{Words, BadClock, BadMessage, FewLentWords}
 use Rattle.frame.specs.Bits.{bitsOf}
 use Rattle.frame.specs.Faults.{mostBytes}
 use Rattle.frame.specs.Reading.{Good}
@@ -70,12 +67,20 @@ pub data Sheet : Type 0 where
   words : List ℕ → Sheet
   turnedAway : (number : ℕ) → Sheet
 
+-- 36: "clock outside the sending windows"
+abbrev pub badClock : Clock → Test
+badClock c = unset (goodOf c)
+
+-- 32: "lent words under 101"
+abbrev pub fewWords : (lent : ℕ) → Test
+fewWords lent = below lent mostWords
+
 -- "Where several apply: .. writing 36, 37, 32": the clock, the message, and so many words lent
 abbrev pub writeRules : Clock → List ℕ → Response → List ℕ → (lent : ℕ) → List Rule
 writeRules c main kind rs lent =
-    rule 36 (unset (goodOf c))
+    rule 36 (badClock c)
     ∷ rule 37 (set (badMessage main kind rs))
-    ∷ rule 32 (below lent mostWords)
+    ∷ rule 32 (fewWords lent)
     ∷ []
 
 -- what a call comes to, by the number of the first rule that holds: the words of the frame where none does
@@ -85,30 +90,3 @@ sheetBy number ws = cond (eqb number 0) (words ws) (turnedAway number)
 -- Writing with so many words lent.
 unfoldable pub writing : Clock → List ℕ → Response → List ℕ → (lent : ℕ) → Sheet
 writing c main kind rs lent = sheetBy (firstRule (writeRules c main kind rs lent)) (frameWords c main kind rs)
-
--- An answer of the call as the paper has it: the number of its refusal, 0 where there is none, and the number of words.
-pub record Count : Type 0 where
-  pub number : ℕ
-  pub count : ℕ
-
--- the number and the count of each case of the call's answer
-abbrev pub counted : Writing → Count
-counted (Words n) = record { number = 0; count = n }
-counted BadClock = record { number = 36; count = 0 }
-counted BadMessage = record { number = 37; count = 0 }
-counted FewLentWords = record { number = 32; count = 0 }
-
--- the number and the count of what writing comes to
-abbrev pub counts : Sheet → Count
-counts (words ws) = record { number = 0; count = length ws }
-counts (turnedAway n) = record { number = n; count = 0 }
-
--- the lent words afterwards: "words past those written are unchanged"
-abbrev pub wordsAfter : Sheet → List ℕ → List ℕ
-wordsAfter (words ws) lent = ws ++ drop (length ws) lent
-wordsAfter (turnedAway n) lent = lent
-
--- The promise of writing: the answer, and the lent words from entry to exit.
-pub record WritePromise (c : Clock) (main : List ℕ) (kind : Response) (rs : List ℕ) (entry exit : List ℕ) (answer : Writing) : Type 0 where
-  pub counts-it : counted answer ≡ counts (writing c main kind rs (length entry))
-  pub lends-it : exit ≡ wordsAfter (writing c main kind rs (length entry)) entry

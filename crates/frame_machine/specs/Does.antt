@@ -8,7 +8,7 @@ use mathlib.Core.List.{[], _∷_, _++_}
 use lib.ListN.{length}
 use Rattle.frame.specs.declared.Fault.{Fault}
 use Rattle.frame.specs.Signs.{Sign, isEnd}
-use Rattle.frame.specs.Answers.{faultNumber}
+use Rattle.frame.specs.ReadPromise.{faultNumber}
 use Rattle.frame.specs.Standing.{Standing, counted, moved}
 use Rattle.frame.specs.Faults.{fault}
 use Rattle.frame_machine.specs.declared.Stepped.{Stepped}

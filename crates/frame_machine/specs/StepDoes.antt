@@ -15,7 +15,7 @@ use Rattle.frame.specs.Bits.{bytes}
 use Rattle.frame.specs.ReadStated.{leftOver, shiftedIn}
 use Rattle.frame.specs.Standing.{plain, checked, Standing, atSof, inMain, atNormalization, inResponse}
 use Rattle.frame.specs.Faults.{fault}
-use Rattle.frame.specs.Answers.{faultNumber}
+use Rattle.frame.specs.ReadPromise.{faultNumber}
 use Rattle.frame_machine.specs.Steps.{faulty, sofOf, stepOf, fresh}
 use Rattle.frame_machine.specs.Meaning.{meaningOf}
 use Rattle.frame_machine.specs.Holding.{soFar, holding}

@@ -1,7 +1,7 @@
 // The numbers that answers are told by. Document 01 has one for each fault, for what is no fault, and for each refusal; and
 // since enums do not cross to other languages, each symbol and each kind of response has one too.
 ghost use mathlib.Core.Path.{_≡_};
-ghost use Rattle.frame.specs.Answers.{faultNumber};
+ghost use Rattle.frame.specs.ReadPromise.{faultNumber};
 ghost use Rattle.frame_numbers.specs.Numbers.{symbolNumber, kindNumber, kindOf};
 use frame::Fault;
 use frame::Response;

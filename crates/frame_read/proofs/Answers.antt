@@ -1,21 +1,23 @@
 -- Each answer of reading tells of the outcome that document 01 gives, from what the search and the machine have shown.
 use Prim.Native.Nat.{ℕ, _+_, _-_, _≤_, _<_}
-use mathlib.Core.Path.{_≡_, refl, ap, _∙_}
+use mathlib.Core.Path.{_≡_, refl, sym, ap, _∙_}
 use mathlib.Core.List.{List}
 use native.Mathlib.Omega.{arith}
 use lib.ListN.{length, getD, take}
-use borrow.Author.Tests.{le-leb, lt-leb, lt-ltb, le-ltb}
+use borrow.Author.Tests.{le-leb, lt-leb}
 use Rattle.symbol.specs.declared.Symbol.{Symbol}
 use Rattle.symbol.specs.Classes.{classOf}
 use Rattle.frame.specs.declared.Fault.{Fault}
 use Rattle.frame.specs.declared.Sign.{Sign}
 use Rattle.frame.specs.declared.Reading.{Reading}
 use Rattle.frame.specs.declared.Reading.the-variants.{Quiet, Unfinished, Faulty, PastRecording, FewLentBytes}
-use Rattle.frame.specs.Line.{activeAt, symbolAt, Line, single, nowhere, at, firstIn, opening}
+use Rattle.frame.specs.Line.{activeAt, Line, single, nowhere, at, firstIn, opening}
 use Rattle.frame.specs.Standing.{stands}
 use Rattle.frame.specs.Faults.{mostBytes}
-use Rattle.frame.specs.Reading.{faultAt, decides, decided, readBy, readOn}
-use Rattle.frame.specs.Answers.{faultNumber, ReadPromise}
+use Rattle.frame.specs.Reading.{Outcome, refused, faultAt, decides, decided, readBy, reading}
+use Rattle.frame.specs.ReadPromise.{faultNumber, tells, lentAfter, ReadPromise}
+use Rattle.frame.specs.ShownLaws.{shows-class}
+use Rattle.frame.specs.Outcomes.{reads-31, reads-32, reads-by}
 use Rattle.frame_machine.specs.declared.Machine.{Machine}
 use Rattle.frame_machine.specs.declared.Event.{Event}
 use Rattle.frame_machine.specs.declared.Stepped.{Stepped}
@@ -37,8 +39,7 @@ use Rattle.frame_read.specs.Answering.{placed, frameOf, Meets}
 pub told-by : (ws : List ℕ) (o k : ℕ) (m : Machine) (kept : List ℕ) → Keeping mostBytes (single ws) o k m kept
     → (symbol : Symbol) (sign : Sign) (r : Stepped) (e : Event) → symbol ≡ classOf (activeAt k) (getD ws k 0) → sign ≡ signFor symbol
     → r ≡ stepOf mostBytes m sign → r .event ≡ e → SaysKept e (m .count) mostBytes (single ws) o k (r .machine) kept
-unfolding symbolAt
-told-by ws o k m kept v symbol sign r e a b made gave = kept-by mostBytes (single ws) o k m kept v sign r e (ap meaningOf (b ∙ ap signFor a) ∙ sign-means (classOf (activeAt k) (getD ws k 0))) made gave
+told-by ws o k m kept v symbol sign r e a b made gave = kept-by mostBytes (single ws) o k m kept v sign r e (ap meaningOf (b ∙ ap signFor a) ∙ sign-means (classOf (activeAt k) (getD ws k 0)) ∙ sym (shows-class ws k)) made gave
 
 -- ## The decision
 
@@ -79,23 +80,16 @@ module _ (l : Line) (p : ℕ) (entry : List ℕ) where
 -- ## The refusals, and the promise
 
 module _ (ws : List ℕ) (p : ℕ) (entry : List ℕ) where
+  -- what the call comes to meets its promise
+  meets : (x : Outcome) (exit : List ℕ) (r : Reading) → reading ws p (length entry) ≡ x → Meets x entry exit r → ReadPromise ws p entry exit r
+  meets x exit r e v = record { tells-it = v .tells-it ∙ ap tells (sym e); lends-it = v .lends-it ∙ ap (λ (y : Outcome). lentAfter y entry) (sym e) }
+
   pub past-promise : length ws < p → ReadPromise ws p entry entry PastRecording
-  unfolding readOn
-  past-promise h = record { tells-it = rw (lt-ltb (length ws) p h); lends-it = rw (lt-ltb (length ws) p h) }
+  past-promise h = meets (refused 31) entry PastRecording (reads-31 mostBytes (single ws) p (length entry) h) (record { tells-it = refl; lends-it = refl })
 
   pub few-promise : p ≤ length ws → length entry < mostBytes → ReadPromise ws p entry entry FewLentBytes
-  unfolding readOn
-  few-promise g h =
-      record {
-        tells-it = rw (le-ltb (length ws) p g, lt-ltb (length entry) mostBytes h);
-        lends-it = rw (le-ltb (length ws) p g, lt-ltb (length entry) mostBytes h);
-      }
+  few-promise g h = meets (refused 32) entry FewLentBytes (reads-32 mostBytes (single ws) p (length entry) g h) (record { tells-it = refl; lends-it = refl })
 
   pub read-promise : (exit : List ℕ) (r : Reading) → p ≤ length ws → mostBytes ≤ length entry → Meets (readBy (opening (single ws) p) mostBytes (single ws) p) entry exit r
       → ReadPromise ws p entry exit r
-  unfolding readOn
-  read-promise exit r g h v =
-      record {
-        tells-it = rw (le-ltb (length ws) p g, le-ltb (length entry) mostBytes h) (v .tells-it);
-        lends-it = rw (le-ltb (length ws) p g, le-ltb (length entry) mostBytes h) (v .lends-it);
-      }
+  read-promise exit r g h v = meets (readBy (opening (single ws) p) mostBytes (single ws) p) exit r (reads-by mostBytes (single ws) p (length entry) g h) v

@@ -10,20 +10,15 @@ use lib.ListN.{length, getD}
 use borrow.Author.Tests.{eq-eqb, ne-eqb}
 use Rattle.symbol.specs.Classes.{endOf}
 use Rattle.laws.specs.Tests.{upTo}
-use Rattle.frame.specs.Line.{single, endAt, Found as FoundPlace, nowhere, at, first, firstIn, opening}
+use Rattle.frame.specs.Line.{single, endAt, Found as FoundPlace, nowhere, at, firstIn, opening}
 use Rattle.frame.specs.Faults.{mostBytes}
 use Rattle.frame.specs.Reading.{decides}
 use Rattle.frame.specs.ShownLaws.{end-width}
-use Rattle.frame.specs.FirstLaws.{first-at, first-empty}
+use Rattle.frame.specs.FirstLaws.{first-at, first-empty, first-here, opening-is}
 use Rattle.frame.specs.ReadStated.{IsFirst}
 use Rattle.frame_read.specs.declared.Found.{Found}
 use Rattle.frame_read.specs.declared.Found.the-variants.{At, Nowhere}
 use Rattle.frame_read.specs.Answering.{foundBy}
-
--- the first place is this one, or the first after it
-first-here : (test : ℕ → Bool) (i n : ℕ) (b : Bool) → i < n → test i ≡ b → firstIn test i n ≡ cond b (at i) (firstIn test (i + 1) n)
-unfolding first
-first-here test i n b h e = let m : n - i ≡ suc (n - (i + 1)) = omega arith in rw (m, e)
 
 -- ## The interval that decides
 
@@ -37,17 +32,19 @@ decides-none ws o i h = first-empty (decides mostBytes (single ws) o) i (length 
 -- ## The opening
 
 pub open-none : (ws : List ℕ) (i : ℕ) → length ws ≤ i → opening (single ws) i ≡ nowhere
-unfolding opening
-open-none ws i h = first-empty (endAt (single ws)) i (length ws) h
+open-none ws i h = opening-is (single ws) i ∙ first-empty (endAt (single ws)) i (length ws) h
 
 -- at an active place there is no end
 open-active : (ws : List ℕ) (i : ℕ) → i % 2 ≡ 1 → opening (single ws) i ≡ opening (single ws) (i + 1)
-unfolding opening endOf
+unfolding endOf
 open-active ws i e = go (upTo (length ws) i)
   where
     go : (length ws ≤ i) ⊎ (i < length ws) → opening (single ws) i ≡ opening (single ws) (i + 1)
-    go (inl h) = first-empty (endAt (single ws)) i (length ws) h ∙ sym (first-empty (endAt (single ws)) (i + 1) (length ws) (omega arith))
-    go (inr h) = first-here (endAt (single ws)) i (length ws) false h (end-width ws i ∙ rw (eq-eqb (i % 2) 1 e))
+    go (inl h) = open-none ws i h ∙ sym (open-none ws (i + 1) (omega arith))
+    go (inr h) =
+        opening-is (single ws) i
+        ∙ first-here (endAt (single ws)) i (length ws) false h (end-width ws i ∙ rw (eq-eqb (i % 2) 1 e))
+        ∙ sym (opening-is (single ws) (i + 1))
 
 -- the search starts at an even place
 pub open-even : (ws : List ℕ) (p : ℕ) → opening (single ws) p ≡ opening (single ws) (p + p % 2)
@@ -61,14 +58,16 @@ open-even ws p = go (p % 2) refl
 -- at an even place: the end that was met is the opening, and otherwise the next even place is looked at
 pub open-here : (ws : List ℕ) (i : ℕ) (r : Bool) → i < length ws → i % 2 ≡ 0 → r ≡ endOf false (getD ws i 0) → (b : Bool) → r ≡ b
     → opening (single ws) i ≡ cond b (at i) (opening (single ws) (i + 2))
-unfolding opening
 open-here ws i r h even e b g = here ∙ go b
   where
     two : i + 1 + 1 ≡ i + 2
     two = omega arith
 
     here : opening (single ws) i ≡ cond b (at i) (opening (single ws) (i + 1))
-    here = first-here (endAt (single ws)) i (length ws) b h (end-width ws i ∙ rw (ne-eqb (i % 2) 1 (λ x. omega arith)) (sym e ∙ g))
+    here =
+        opening-is (single ws) i
+        ∙ first-here (endAt (single ws)) i (length ws) b h (end-width ws i ∙ rw (ne-eqb (i % 2) 1 (λ x. omega arith)) (sym e ∙ g))
+        ∙ ap (cond b (at i)) (sym (opening-is (single ws) (i + 1)))
 
     go : (c : Bool) → cond c (at i) (opening (single ws) (i + 1)) ≡ cond c (at i) (opening (single ws) (i + 2))
     go true = refl
@@ -92,7 +91,6 @@ opened-none ws p r e g = found-none (opening (single ws) p) (sym e ∙ g)
 
 -- an opening stands in the recording
 pub opened-in : (ws : List ℕ) (p o : ℕ) → p ≤ length ws → opening (single ws) p ≡ at o → o < length ws
-unfolding opening
 opened-in ws p o h e =
-    let f : IsFirst (endAt (single ws)) p (length ws - p) o = first-at (endAt (single ws)) p (length ws - p) o e in
+    let f : IsFirst (endAt (single ws)) p (length ws - p) o = first-at (endAt (single ws)) p (length ws - p) o (sym (opening-is (single ws) p) ∙ e) in
     omega (arith, f .before)

@@ -8,7 +8,7 @@ use Rattle.frame.specs.declared.Reading.{Reading}
 use Rattle.frame.specs.declared.Reading.the-variants.{Frame}
 use Rattle.frame.specs.Line.{Found as FoundPlace, nowhere, at}
 use Rattle.frame.specs.Reading.{Outcome}
-use Rattle.frame.specs.Answers.{told, tells, lentAfter}
+use Rattle.frame.specs.ReadPromise.{told, tells, lentAfter}
 use Rattle.frame_read.specs.declared.Found.{Found}
 use Rattle.frame_read.specs.declared.Found.the-variants.{At, Nowhere}
 use Rattle.frame_machine.specs.declared.parts.Parts.{Parts}

@@ -7,7 +7,7 @@ ghost use lib.ListN.{length};
 ghost use Rattle.frame.specs.Faults.{mostBytes};
 ghost use Rattle.frame.specs.Line.{single, at, opening as openingOf};
 ghost use Rattle.frame.specs.Reading.{decided, readBy};
-ghost use Rattle.frame.specs.Answers.{ReadPromise};
+ghost use Rattle.frame.specs.ReadPromise.{ReadPromise};
 ghost use Rattle.frame_machine.specs.Parts.{partsOf};
 ghost use Rattle.frame_read.specs.Answering.{foundBy, frameOf, Meets};
 use frame::MOST_BYTES;

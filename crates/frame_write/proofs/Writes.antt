@@ -10,7 +10,8 @@ use Rattle.symbol.specs.Clocks.{goodOf}
 use Rattle.frame.specs.declared.Response.{Response}
 use Rattle.frame.specs.declared.Writing.{Writing}
 use Rattle.frame.specs.declared.Writing.the-variants.{Words, BadClock, BadMessage, FewLentWords}
-use Rattle.frame.specs.Writing.{Sheet, words, turnedAway, writing, frameWords, badMessage, mostWords, counted, counts, wordsAfter, WritePromise}
+use Rattle.frame.specs.Writing.{Sheet, words, turnedAway, writing, frameWords, badMessage, mostWords}
+use Rattle.frame.specs.WritePromise.{counted, counts, wordsAfter, WritePromise}
 
 module _ (c : Clock) (main : List ℕ) (kind : Response) (rs entry : List ℕ) where
   -- what writing comes to settles the promise

@@ -2,18 +2,17 @@
 -- The one law of the first rule that holds. Every "exactly when" of a refusal is an instance of it.
 --     first-is        the number is n exactly when rule n holds and no rule before it does
 --     none-is         it is 0 exactly when no rule holds
---     none-greater    it is at most the greatest of the rules' numbers
 --     first-then      the rules of one list and then those of another
 --     first-same      two lists whose tests agree
 --     refuses         a call that answers it is turned away under n exactly then
-use Prim.Native.Nat.{ℕ, _≤_, _<_}
+use Prim.Native.Nat.{ℕ, _<_}
 use mathlib.Core.Path.{_≡_, refl, sym, _∙_}
-use mathlib.Core.Bool.{Bool, true, false, cond, not, _&&_}
+use mathlib.Core.Bool.{Bool, true, false, cond, not}
 use mathlib.Core.List.{List, [], _∷_, _++_}
 use mathlib.Core.Logic.{_↔_}
 use native.Mathlib.Omega.{arith}
-use lib.Dec.{eqb, leb}
-use borrow.Author.Tests.{eqb-true, eqb-false, ne-eqb, leb-true, not-true}
+use lib.Dec.{eqb}
+use borrow.Author.Tests.{eqb-true, eqb-false, ne-eqb, not-true}
 use Rattle.laws.specs.Tests.{never, both}
 use Rattle.laws.specs.Rules.{Rule, firstRule, FirstToHold, NoneHolds, TurnedAway}
 use Rattle.laws.specs.Rules.{without, apart}
@@ -55,22 +54,6 @@ none-is (r ∷ rs) w =
         → (cond t (r .number) (firstRule rs) ≡ 0) ↔ ((¬ (r .when .Holds)) × NoneHolds rs)
     go true s d ih = (λ e. absurd (eqb-false 0 (r .number) d (sym e)), λ h. absurd (h .0 (r .when .means .0 s)))
     go false s d ih = (λ e. (λ x. never (r .when .means .1 x) s, ih .0 e), λ h. ih .1 (h .1))
-
--- no rule has a number above m
-abbrev pub upTo : ℕ → List Rule → Bool
-upTo m [] = true
-upTo m (r ∷ rs) = leb (r .number) m && upTo m rs
-
--- The number is at most m where each rule's is.
-pub none-greater : (m : ℕ) (rs : List Rule) → upTo m rs ≡ true → firstRule rs ≤ m
-none-greater m [] h = omega arith
-none-greater m (r ∷ rs) h =
-    let parts = both (leb (r .number) m) (upTo m rs) h in
-    go (r .when .says) (leb-true (r .number) m (parts .0)) (none-greater m rs (parts .1))
-  where
-    go : (t : Bool) → r .number ≤ m → firstRule rs ≤ m → cond t (r .number) (firstRule rs) ≤ m
-    go true h k = h
-    go false h k = k
 
 -- the first number, or where it is 0 the later one
 abbrev pub andThen : ℕ → ℕ → ℕ

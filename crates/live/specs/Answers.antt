@@ -1,7 +1,7 @@
 -- Definitions.
 -- The answers of a live reader as the papers have them: the number of each, the values that go with it, and the rules of the
 -- refusals.
-use Rattle.frame.specs.Answers.{faultNumber, Told, bare}
+use Rattle.frame.specs.ReadPromise.{faultNumber, Told, bare}
 use mathlib.Core.List.{List, [], _∷_}
 use Rattle.live.specs.declared.Heard.{Heard}
 use Rattle.live.specs.declared.Heard.the-variants.{Nothing, Frame, Faulty, PastPlaces, FewLentBytes}

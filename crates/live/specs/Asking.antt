@@ -16,7 +16,7 @@ use Rattle.frame.specs.Standing.{Standing, atSof, responseBy, stands, standsBy}
 use Rattle.frame.specs.StandingLaws.{stands-sof}
 use Rattle.frame.specs.Faults.{mostBytes}
 use Rattle.frame.specs.Reading.{Outcome, quiet, unfinished, readOn}
-use Rattle.frame.specs.Answers.{tells}
+use Rattle.frame.specs.ReadPromise.{tells}
 use Rattle.frame.specs.ReadStated.{goesOn}
 use Rattle.frame_machine.specs.declared.Machine.{Machine}
 use Rattle.frame_machine.specs.Holding.{phaseOf, holding}

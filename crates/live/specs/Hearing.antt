@@ -10,7 +10,7 @@ use lib.ListN.{length}
 use Rattle.frame.specs.Line.{Line, nowhere, at, firstIn, opening}
 use Rattle.frame.specs.Faults.{mostBytes}
 use Rattle.frame.specs.Reading.{Outcome, decides}
-use Rattle.frame.specs.Answers.{tells, lentAfter}
+use Rattle.frame.specs.ReadPromise.{tells, lentAfter}
 use Rattle.frame.specs.ReadStated.{goesOn}
 use Rattle.frame.specs.ReadingOn.{nextOf, onLine, Reaches}
 use Rattle.frame_machine.specs.declared.Machine.{Machine}

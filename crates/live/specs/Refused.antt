@@ -15,7 +15,7 @@ use Rattle.laws.specs.RuleLaws.{first-same, refuses}
 use Rattle.frame.specs.Line.{Line}
 use Rattle.frame.specs.Faults.{mostBytes}
 use Rattle.frame.specs.Reading.{Outcome}
-use Rattle.frame.specs.Answers.{bare}
+use Rattle.frame.specs.ReadPromise.{bare}
 use Rattle.frame_machine.specs.declared.Machine.{Machine}
 use Rattle.frame_machine.specs.declared.Event.{Event}
 use Rattle.frame_machine.specs.declared.Event.the-variants.{Going, Byte, Closed, Faulty as FaultyEvent}

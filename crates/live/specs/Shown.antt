@@ -6,7 +6,7 @@ use mathlib.Core.List.{List, [], _∷_, _++_, map}
 use lib.ListN.{length, take}
 use Rattle.frame.specs.Faults.{mostBytes}
 use Rattle.frame.specs.Reading.{Outcome}
-use Rattle.frame.specs.Answers.{Told, tells, written}
+use Rattle.frame.specs.ReadPromise.{Told, tells, written}
 use Rattle.live.specs.declared.Live.{Live}
 use Rattle.live.specs.Feeding.{fedOf, lentOf, askedOf, started}
 use Rattle.live.specs.Answers.{toldBy, askedTold, refusal}

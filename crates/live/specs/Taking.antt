@@ -10,7 +10,7 @@ use Rattle.frame.specs.Line.{Line, endAt, Found, nowhere, at, firstIn, opening}
 use Rattle.frame.specs.Standing.{Standing, stands}
 use Rattle.frame.specs.Faults.{mostBytes}
 use Rattle.frame.specs.Reading.{Outcome, good, closed, faulty, decides, decidedBy, readOn}
-use Rattle.frame.specs.Answers.{faultNumber}
+use Rattle.frame.specs.ReadPromise.{faultNumber}
 use Rattle.frame.specs.FirstLaws.{first-at, orAt, first-next, first-empty}
 use Rattle.frame.specs.ReadStated.{IsFirst, Opens, goesOn}
 use Rattle.frame.specs.Outcomes.{opened-reading}

@@ -13,7 +13,7 @@ use Rattle.laws.specs.Tests.{never}
 use Rattle.frame.specs.Line.{single}
 use Rattle.frame.specs.Faults.{mostBytes}
 use Rattle.frame.specs.Reading.{Outcome, good, quiet, unfinished, faulty, refused, reading}
-use Rattle.frame.specs.Answers.{Told, tells, lentAfter}
+use Rattle.frame.specs.ReadPromise.{Told, tells, lentAfter}
 use Rattle.frame.specs.ReadStated.{goesOn}
 use Rattle.frame.specs.ReadingOn.{ReadsOn, last, reads-once, reads-through}
 use Rattle.live.specs.declared.Live.{Live}

@@ -8,7 +8,7 @@ use Rattle.symbol.specs.Classes.{classOf, endOf}
 use Rattle.checkbyte.specs.Register.{shift, eightShifts, stepOf as registerStep}
 use Rattle.frame.specs.Faults.{mostBytes}
 use Rattle.frame.specs.Reading.{good, quiet}
-use Rattle.frame.specs.WorkedReading.{ffff, ffffRead}
+use Rattle.frame.specs.Worked.{ffff, ffffRead}
 use Rattle.frame_machine.specs.Steps.{pushOf, bitOf, sofOf, closeOf}
 use Rattle.live.specs.Feeding.{heldBy, started, beginsAnew, goesOn, takenOf, fedOf, lentOf, askedOf}
 use Rattle.live.specs.Held.{insideOf, outside, after}

@@ -14,7 +14,7 @@ use borrow.Author.Tests.{eqb-true, ne-eqb}
 use Rattle.laws.specs.Rules.{firstRule, FirstToHold, NoneHolds, TurnedAway}
 use Rattle.laws.specs.RuleLaws.{first-is, none-is}
 use Rattle.volts.specs.Intervals.{intervalsOf}
-use Rattle.volts.specs.Tracing.{TraceOutcome, wrote, turnedAway, numbered, rules, outcomeBy, outcome, wordsAfter, Promise}
+use Rattle.volts.specs.Promise.{TraceOutcome, wrote, turnedAway, numbered, rules, outcomeBy, outcome, wordsAfter, TracePromise}
 use Rattle.volts.specs.declared.Gate.{Gate}
 use Rattle.volts.specs.declared.Traced.{Traced}
 use Rattle.volts.specs.declared.Traced.the-variants.{Intervals, TooManySamples, BadGate, TooFewWords, UnusableSample}
@@ -70,10 +70,10 @@ module _ (g : Gate) (s : List Float) (lent : List ℕ) where
   by-rule UnusableSample h = refused 35 (omega arith) .1 h
 
   -- a call whose answer's rule holds, and that leaves the words that belong to that answer, keeps the promise
-  pub promised : {r : Traced} {left : List ℕ} → RuleOf g s lent (numbered r) → left ≡ wordsAfter (numbered r) (intervalsOf g s) lent → Promise g s lent r left
+  pub promised : {r : Traced} {left : List ℕ} → RuleOf g s lent (numbered r) → left ≡ wordsAfter (numbered r) (intervalsOf g s) lent → TracePromise g s lent r left
   promised {r} h e = record { answers = sym (by-rule r h); leaves = rw (by-rule r h) e }
 
-module _ {g : Gate} {s : List Float} {lent : List ℕ} {r : Traced} {left : List ℕ} (p : Promise g s lent r left) where
+module _ {g : Gate} {s : List Float} {lent : List ℕ} {r : Traced} {left : List ℕ} (p : TracePromise g s lent r left) where
   -- a call that is turned away, under whichever number, has written nothing
   pub untouched : (k : ℕ) → numbered r ≡ turnedAway k → left ≡ lent
   untouched k e = p .leaves ∙ rw (sym (p .answers) ∙ e)

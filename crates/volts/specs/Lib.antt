@@ -2,12 +2,11 @@
 pub mod Judging
 pub mod Levels
 pub mod Intervals
-pub mod Tracing
-pub mod Starred
-pub mod Edges
+pub mod Promise
+pub mod Worked
 pub mod Stated
 -- Laws.
-pub mod Settling
+pub mod Settled
 pub mod ExactlyWhen
 pub mod Somewhere
 pub mod IntervalLaws

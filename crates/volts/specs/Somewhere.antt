@@ -9,7 +9,7 @@ use native.Mathlib.Omega.{arith}
 use lib.Ieee.{Float}
 use Rattle.volts.specs.Judging.{judged}
 use Rattle.volts.specs.Levels.{isUnusable}
-use Rattle.volts.specs.Tracing.{sampleUnusable}
+use Rattle.volts.specs.Promise.{sampleUnusable}
 use Rattle.volts.specs.declared.Gate.{Gate}
 use Rattle.volts.specs.declared.Judged.{Judged}
 use Rattle.volts.specs.declared.Judged.the-variants.{Active, Passive, Between, Unusable}

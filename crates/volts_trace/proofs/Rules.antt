@@ -11,7 +11,7 @@ use Rattle.laws.specs.Tests.{never}
 use Rattle.laws.specs.Rules.{NoneHolds}
 use Rattle.volts.specs.Judging.{goodGate}
 use Rattle.volts.specs.Intervals.{intervalsOf}
-use Rattle.volts.specs.Tracing.{mostSamples, sampleUnusable, rules}
+use Rattle.volts.specs.Promise.{mostSamples, sampleUnusable, rules}
 use Rattle.volts.specs.declared.Gate.{Gate}
 
 -- what the two tests of lengths say, of the most samples and of the lent words

@@ -9,7 +9,7 @@ use lib.ListN.{length, getD, drop, drop-of-length-le}
 use lib.Seq.{drop-cons}
 use Rattle.volts.specs.Judging.{judged}
 use Rattle.volts.specs.Levels.{isUnusable}
-use Rattle.volts.specs.Tracing.{sampleUnusable}
+use Rattle.volts.specs.Promise.{sampleUnusable}
 use Rattle.volts.specs.declared.Gate.{Gate}
 use Rattle.volts.specs.declared.Judged.{Judged}
 

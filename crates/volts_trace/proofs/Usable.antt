@@ -7,7 +7,7 @@ use native.Mathlib.Omega.{arith}
 use lib.Ieee.{Float, nan}
 use lib.ListN.{length, getD}
 use Rattle.volts.specs.Judging.{isFinite, corrected, against, judged}
-use Rattle.volts.specs.Tracing.{sampleUnusable}
+use Rattle.volts.specs.Promise.{sampleUnusable}
 use Rattle.volts.specs.Somewhere.{somewhere}
 use Rattle.volts.specs.declared.Gate.{Gate}
 use Rattle.volts.specs.declared.Judged.the-variants.{Unusable}

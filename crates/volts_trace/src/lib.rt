@@ -7,7 +7,7 @@ ghost use mathlib.Core.List.{_++_};
 ghost use lib.ListN.{length, drop};
 ghost use Rattle.volts.specs.Levels.{levelAfter, isUnusable};
 ghost use Rattle.volts.specs.Intervals.{intervalsOf};
-ghost use Rattle.volts.specs.Tracing.{mostSamples, sampleUnusable, Promise};
+ghost use Rattle.volts.specs.Promise.{mostSamples, sampleUnusable, TracePromise};
 use units::Micros;
 use units::Place;
 use volts::Gate;
@@ -94,7 +94,7 @@ fn write_intervals(gate: Gate, samples: &[f32], words: &mut [u32]) -> usize
 // the answer is how many were written. A trace that is too long, a gate that cannot judge, too few lent words or a sample
 // that cannot be used is turned away, in this order, and then no word is changed.
 pub fn intervals(gate: Gate, samples: &[f32], words: &mut [u32]) -> Traced
-    ensures { λ r. ⌜ Promise gate (now (samples .entry)) (now (words .entry)) r (now (words .exit)) ⌝ }
+    ensures { λ r. ⌜ TracePromise gate (now (samples .entry)) (now (words .entry)) r (now (words .exit)) ⌝ }
 {
     if samples.len() > MOST_SAMPLES {
         return Traced::TooManySamples;

@@ -15,12 +15,12 @@ use Rattle.checkbyte.specs.Register.{checkOf, registerFrom, stepOf}
 use Rattle.volts.specs.declared.Gate.{Gate}
 use Rattle.volts.specs.Judging.{judged, against, isFinite}
 use Rattle.volts.specs.Intervals.{intervalsOf}
-use Rattle.volts.specs.Starred.{usualGate, volts, sameWidths}
+use Rattle.volts.specs.Worked.{usualGate, volts, sameWidths}
 use Rattle.frame.specs.Bits.{bitsOf}
 use Rattle.frame.specs.Line.{is}
 use Rattle.bench.specs.declared.Station.{Station}
-use Rattle.bench.specs.Round.{asked, shortest, longest, onLine, play}
-use Rattle.bench.specs.Contest.{pulsesOf, sofsAsked, sumOf, contestOf, roundOf}
+use Rattle.bench.specs.Course.{asked, shortest, longest, onLine, play}
+use Rattle.bench.specs.Round.{pulsesOf, sofsAsked, sumOf, roundAmong, roundOf}
 use Rattle.bench.specs.Worked.{holds, clockOf, losesAt, lasts}
 
 -- A starred item: what is given, and what document 01 says comes of it.
@@ -89,5 +89,5 @@ items =
 
 -- Every starred item is so.
 pub starred : all items ≡ true
-unfolding all items isSo checkOf registerFrom stepOf classOf judged against isFinite ofInt sub add neg sum round size units odd span climb lt le eq trailingZeros losesAt lasts roundOf contestOf play asked shortest longest onLine pulsesOf sofsAsked sumOf bitsOf
+unfolding all items isSo checkOf registerFrom stepOf classOf judged against isFinite ofInt sub add neg sum round size units odd span climb lt le eq trailingZeros losesAt lasts roundOf roundAmong play asked shortest longest onLine pulsesOf sofsAsked sumOf bitsOf
 starred = refl

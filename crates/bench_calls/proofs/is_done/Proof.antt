@@ -6,7 +6,7 @@ use lib.Dec.{eqb}
 use types.Run.{OneOf, miss}
 use denote.Enum.Declared.{tagOf}
 use Rattle.bench.specs.declared.Called.{Called}
-use Rattle.bench.specs.Promises.{calledNumber}
+use Rattle.bench.specs.Promise.{calledNumber}
 use Rattle.bench.proofs.Called.{the-type}
 use borrow.Author.Needs.{needs}
 use Rattle.bench_calls.proofs.is_done.Statement.{statement}

@@ -20,7 +20,7 @@ returns c = refl
 
 returns-2 : tie.Need-returns-2
 unfolding withOf
-returns-2 c = let a = c .before .args in let n = full (a .bench) (c .before .good .0) in rw (set-out (a .bench .at) (a .i) (a .station) (omega (arith, n, c .if1 .left)))
+returns-2 c = let a = c .before .args in let n = full (a .held) (c .before .good .0) in rw (set-out (a .held .at) (a .i) (a .station) (omega (arith, n, c .if1 .left)))
 
 pub with-spec : {M : Type 1} → statement M
 with-spec = tie.close (tie.spec mul-station element-set-from-station returns returns-2)

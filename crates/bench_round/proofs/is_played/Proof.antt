@@ -6,7 +6,7 @@ use lib.Dec.{eqb}
 use types.Run.{OneOf, miss}
 use denote.Enum.Declared.{tagOf}
 use Rattle.bench.specs.declared.RoundTold.{RoundTold}
-use Rattle.bench.specs.Promises.{toldNumber}
+use Rattle.bench.specs.Promise.{toldNumber}
 use Rattle.bench.proofs.RoundTold.{the-type}
 use borrow.Author.Needs.{needs}
 use Rattle.bench_round.proofs.is_played.Statement.{statement}

@@ -17,7 +17,7 @@ is-played-requires c κs = search needs
 play-requires : tie.Need-play-requires
 play-requires c κs =
     let a = c .before .before .before .before .before .before .before in
-    may-play (a .args .bench) (a .args .words .now) _ (c .before .before .before .before .survey-all .ensures) (c .before .before .before .round-told .result) (c .before .before .before .round-told .ensures) _ (c .before .before .is-played .ensures) (c .before .if1 .taken)
+    may-play (a .args .held) (a .args .words .now) _ (c .before .before .before .before .survey-all .ensures) (c .before .before .before .round-told .result) (c .before .before .before .round-told .ensures) _ (c .before .before .is-played .ensures) (c .before .if1 .taken)
 
 after-round-requires : tie.Need-after-round-requires
 after-round-requires c κs = search needs
@@ -28,7 +28,7 @@ same-length c = search needs
 returns : tie.Need-returns
 returns c =
     let a = c .before .before .before .before .before .before .before .before .before .before .before .before in
-    plays (a .args .bench) (a .args .words .now) _ (c .before .before .before .before .before .before .before .before .before .survey-all .ensures) (c .before .before .before .before .before .before .before .before .round-told .result) (c .before .before .before .before .before .before .before .before .round-told .ensures) _ (c .before .before .before .before .before .before .before .is-played .ensures) (c .before .before .before .before .before .before .if1 .taken) (full (a .args .bench) (a .good .0)) _ (c .before .before .before .before .play .ensures .0) _ (c .after-round .ensures) _ (c .before .before .before .before .play .ensures .1)
+    plays (a .args .held) (a .args .words .now) _ (c .before .before .before .before .before .before .before .before .before .survey-all .ensures) (c .before .before .before .before .before .before .before .before .round-told .result) (c .before .before .before .before .before .before .before .before .round-told .ensures) _ (c .before .before .before .before .before .before .before .is-played .ensures) (c .before .before .before .before .before .before .if1 .taken) (full (a .args .held) (a .good .0)) _ (c .before .before .before .before .play .ensures .0) _ (c .after-round .ensures) _ (c .before .before .before .before .play .ensures .1)
 
 turned-away-requires : tie.Need-turned-away-requires
 turned-away-requires c κs = search needs
@@ -36,7 +36,7 @@ turned-away-requires c κs = search needs
 returns-2 : tie.Need-returns-2
 returns-2 c =
     let a = c .before .before .before .before .before .before .before in
-    turns-away (a .args .bench) (a .args .words .now) _ (c .before .before .before .before .survey-all .ensures) (c .before .before .before .round-told .result) (c .before .before .before .round-told .ensures) _ (c .before .before .is-played .ensures) (c .before .if1 .left) _ (c .turned-away .ensures)
+    turns-away (a .args .held) (a .args .words .now) _ (c .before .before .before .before .survey-all .ensures) (c .before .before .before .round-told .result) (c .before .before .before .round-told .ensures) _ (c .before .before .is-played .ensures) (c .before .if1 .left) _ (c .turned-away .ensures)
 
 pub round-on-spec : {M : Type 1} → statement M
 round-on-spec =

@@ -3,7 +3,7 @@ use Prim.Native.Nat.{_≤_}
 use mathlib.Core.Path.{_≡_}
 use native.Mathlib.Omega.{arith}
 use lib.ListN.{take, drop}
-use Rattle.bench.specs.Contest.{sumOf}
+use Rattle.bench.specs.Round.{sumOf}
 use Rattle.bench_round.specs.Playing.{sum-start, sum-more, sum-fits, sum-all}
 use borrow.Author.Needs.{needs}
 use Rattle.bench_round.proofs.sum.Statement.{statement}

@@ -2,7 +2,8 @@
 use mathlib.Core.Path.{sym, ap, _∙_}
 use borrow.Author.Needs.{needs}
 use mathlib.Core.Bool.{Bool, cond, not}
-use Rattle.frame.specs.Writing.{turnedAway, counts}
+use Rattle.frame.specs.Writing.{turnedAway}
+use Rattle.frame.specs.WritePromise.{counts}
 use Rattle.c_frame_answers.specs.Answers.{countedAs}
 use Rattle.c_frame_answers.proofs.no_such_kind.Statement.{statement}
 use Rattle.c_frame_answers.proofs.no_such_kind.Tie as tie

@@ -1,7 +1,7 @@
 -- `read_as` gives the numbers of the answer: at each arm the answer is the arm's case.
 use mathlib.Core.Path.{sym, ap, _∙_}
 use Rattle.frame.specs.declared.Reading.{Reading}
-use Rattle.frame.specs.Answers.{told, bare}
+use Rattle.frame.specs.ReadPromise.{told, bare}
 use Rattle.c_frame_answers.specs.Answers.{readAs}
 use borrow.Author.Needs.{needs}
 use Rattle.c_frame_answers.proofs.read_as.Statement.{statement}

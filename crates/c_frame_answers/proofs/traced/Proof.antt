@@ -1,7 +1,7 @@
 -- `traced` gives the numbers of the answer: at each arm the answer is the arm's case.
 use mathlib.Core.Path.{sym, ap}
 use Rattle.volts.specs.declared.Traced.{Traced}
-use Rattle.volts.specs.Tracing.{numbered}
+use Rattle.volts.specs.Promise.{numbered}
 use Rattle.c_frame_answers.specs.Answers.{tracedAs}
 use borrow.Author.Needs.{needs}
 use Rattle.c_frame_answers.proofs.traced.Statement.{statement}

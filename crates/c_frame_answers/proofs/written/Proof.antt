@@ -1,7 +1,7 @@
 -- `written` gives the numbers of the answer: at each arm the answer is the arm's case.
 use mathlib.Core.Path.{sym, ap}
 use Rattle.frame.specs.declared.Writing.{Writing}
-use Rattle.frame.specs.Writing.{counted}
+use Rattle.frame.specs.WritePromise.{counted}
 use Rattle.c_frame_answers.specs.Answers.{countedAs}
 use borrow.Author.Needs.{needs}
 use Rattle.c_frame_answers.proofs.written.Statement.{statement}

@@ -1,7 +1,6 @@
 -- `symbol::bit_width` meets its contract: a bit is short where it is a 1 and the line is active, or neither.
 use mathlib.Core.Path.{_≡_, refl}
 use mathlib.Core.Bool.{Bool, true, false, cond, Bool·beq}
-use Rattle.units.specs.declared.Micros.{Micros}
 use Rattle.symbol.specs.declared.Clock.{Clock}
 use Rattle.symbol.specs.Sending.{bitWidth}
 use Rattle.symbol.proofs.bit_width.Statement.{statement}

@@ -4,7 +4,7 @@ use Prim.Native.Nat.{_≤_, _-_}
 use mathlib.Core.Path.{_≡_}
 use borrow.Author.Needs.{needs}
 use lib.ListN.{length, drop}
-use Rattle.volts.specs.Tracing.{sampleUnusable}
+use Rattle.volts.specs.Promise.{sampleUnusable}
 use Rattle.volts_trace.proofs.Scanning.{scan-stops, scan-goes-on, scan-ends}
 use Rattle.volts_trace.proofs.some_unusable.Statement.{statement}
 use Rattle.volts_trace.proofs.some_unusable.Tie as tie

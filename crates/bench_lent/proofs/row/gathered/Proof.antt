@@ -51,13 +51,13 @@ use Rattle.bench.specs.declared.Station.{Station}
 use Rattle.bench.specs.Stations.{blank, mostStations}
 use Rattle.bench.proofs.Station as T
 use Rattle.bench.proofs.Station.Laws as T′
-use Rattle.bench_row.specs.declared.Bench.{Bench}
-use Rattle.bench_row.specs.Benches.{benchOf}
+use Rattle.bench_row.specs.declared.HeldRow.{HeldRow}
+use Rattle.bench_row.specs.HeldRows.{heldOf}
 use Rattle.bench_lent.specs.Restoring.{gathered, gather-start, gather-more, gather-all, gather-length}
 use Rattle.walks.specs.Walk.{LocalsAt, envOf, allocs-all, frees-all, calls-plain, tests, upFrom, lies, Opened}
 use Rattle.bench_lent.proofs.Cells.{R32, av, into-row, out-of-row, typed32, scaled}
-use Rattle.bench_row.proofs.Bench as B
-use Rattle.bench_row.proofs.Bench.Laws as B′
+use Rattle.bench_row.proofs.HeldRow as B
+use Rattle.bench_row.proofs.HeldRow.Laws as B′
 use Rattle.bench_lent.proofs.row.gathered.Key.{name as #gathered}
 use Rattle.bench_lent.proofs.row.gathered as f
 use Rattle.bench_lent.proofs.row.gathered.Statement as stated
@@ -73,10 +73,10 @@ use Rattle.bench_row.proofs.kept as kept
 use Rattle.bench_row.proofs.kept.Symbol as kept-def
 use Rattle.bench_row.proofs.kept.Symbol.{name as #kept}
 use Rattle.bench_row.proofs.kept.Met as kept-thm
-use Rattle.bench_row.proofs.bench_of as bench-of
-use Rattle.bench_row.proofs.bench_of.Symbol as bench-of-def
-use Rattle.bench_row.proofs.bench_of.Symbol.{name as #bench-of}
-use Rattle.bench_row.proofs.bench_of.Met as bench-of-thm
+use Rattle.bench_row.proofs.bench_of as held-of
+use Rattle.bench_row.proofs.bench_of.Symbol as held-of-def
+use Rattle.bench_row.proofs.bench_of.Symbol.{name as #held-of}
+use Rattle.bench_row.proofs.bench_of.Met as held-of-thm
 
 abbrev R : RattleType
 R = T.the-row
@@ -89,14 +89,14 @@ stayed = (stay-dropped (shrSliceOf (0 ∷ []) tt (plain (λ _. R))) yes, tt)
 abbrev val : Station → Val
 val = LL.val T.the-type T′.the-laws
 
-abbrev bval : Bench → Val
+abbrev bval : HeldRow → Val
 bval = LL.val B.the-type B′.the-laws
 
 abbrev blank-list : List Station
 blank-list = replicate mostStations blank
 
-abbrev bench : List Station → ℕ → Bench
-bench l n = record { at = l; count = n }
+abbrev held : List Station → ℕ → HeldRow
+held l n = record { at = l; count = n }
 
 -- what the calls ask and answer
 module _ {M : Type 1} (𝓤 : URA M) (H : Heap 𝓤) (A : Atoms 𝓤) (mem : Memory → SProp 𝓤) (run : Routine → Fun 𝓤) where
@@ -107,7 +107,7 @@ module _ {M : Type 1} (𝓤 : URA M) (H : Heap 𝓤) (A : Atoms 𝓤) (mem : Mem
   Kept = tripleOf 𝓤 H A kept.signature (kept.spec 𝓤 H A mem run)
 
   abbrev BenchOf : Contract 𝓤
-  BenchOf = tripleOf 𝓤 H A bench-of.signature (bench-of.spec 𝓤 H A mem run)
+  BenchOf = tripleOf 𝓤 H A held-of.signature (held-of.spec 𝓤 H A mem run)
 
   abbrev blanks-ens : List Station → SProp 𝓤
   blanks-ens = ensured 𝓤 H A blanks.ended (blanks.clauses 𝓤 H A mem run) tt tt tt
@@ -115,8 +115,8 @@ module _ {M : Type 1} (𝓤 : URA M) (H : Heap 𝓤) (A : Atoms 𝓤) (mem : Mem
   abbrev kept-ens : ℕ → ℕ → SProp 𝓤
   kept-ens n = ensured 𝓤 H A kept.ended (kept.clauses 𝓤 H A mem run) tt (n, tt) tt
 
-  abbrev bench-ens : List Station → ℕ → Bench → SProp 𝓤
-  bench-ens l n = ensured 𝓤 H A bench-of.ended (bench-of.clauses 𝓤 H A mem run) tt (l, (n, tt)) tt
+  abbrev held-ens : List Station → ℕ → HeldRow → SProp 𝓤
+  held-ens l n = ensured 𝓤 H A held-of.ended (held-of.clauses 𝓤 H A mem run) tt (l, (n, tt)) tt
 
   blanks-says : (r : List Station) → ent 𝓤 (blanks-ens r) (fact 𝓤 (r ≡ blank-list))
   blanks-says r = exE 𝓤 _ (λ ws. snd∗ 𝓤 (sem 𝓤 H A (lasts blanks.ended tt tt ws)) (fact 𝓤 (r ≡ blank-list)))
@@ -124,8 +124,8 @@ module _ {M : Type 1} (𝓤 : URA M) (H : Heap 𝓤) (A : Atoms 𝓤) (mem : Mem
   kept-says : (n r : ℕ) → ent 𝓤 (kept-ens n r) (fact 𝓤 (r ≡ min n mostStations))
   kept-says n r = exE 𝓤 _ (λ ws. snd∗ 𝓤 (sem 𝓤 H A (lasts kept.ended tt (n, tt) ws)) (fact 𝓤 (r ≡ min n mostStations)))
 
-  bench-says : (l : List Station) (n : ℕ) (r : Bench) → ent 𝓤 (bench-ens l n r) (fact 𝓤 (r ≡ bench l n))
-  bench-says l n r = exE 𝓤 _ (λ ws. snd∗ 𝓤 (sem 𝓤 H A (lasts bench-of.ended tt (l, (n, tt)) ws)) (fact 𝓤 (r ≡ bench l n)))
+  held-says : (l : List Station) (n : ℕ) (r : HeldRow) → ent 𝓤 (held-ens l n r) (fact 𝓤 (r ≡ held l n))
+  held-says l n r = exE 𝓤 _ (λ ws. snd∗ 𝓤 (sem 𝓤 H A (lasts held-of.ended tt (l, (n, tt)) ws)) (fact 𝓤 (r ≡ held l n)))
 
   abbrev to-blanks : Blanks .Ghost
   to-blanks = ((tt, tt, tt, tt, tt), tt)
@@ -133,8 +133,8 @@ module _ {M : Type 1} (𝓤 : URA M) (H : Heap 𝓤) (A : Atoms 𝓤) (mem : Mem
   abbrev to-kept : ℕ → Kept .Ghost
   to-kept n = ((tt, tt, tt, (n, tt), (vint w64 n ∷ [], tt)), tt)
 
-  abbrev to-bench : List Station → ℕ → BenchOf .Ghost
-  to-bench l n = ((tt, tt, tt, (l, (n, tt)), (av l ∷ [], (vint w64 n ∷ [], tt))), tt)
+  abbrev to-held : List Station → ℕ → BenchOf .Ghost
+  to-held l n = ((tt, tt, tt, (l, (n, tt)), (av l ∷ [], (vint w64 n ∷ [], tt))), tt)
 
   module _ (W : Given 𝓤 H A) where
     goes-blanks : ent 𝓤 (emp 𝓤) (Blanks .pre to-blanks)
@@ -143,8 +143,8 @@ module _ {M : Type 1} (𝓤 : URA M) (H : Heap 𝓤) (A : Atoms 𝓤) (mem : Mem
     goes-kept : (n : ℕ) → n < 2 ^ 64 → ent 𝓤 (emp 𝓤) (Kept .pre (to-kept n))
     goes-kept n fits = qed W [] ∵ nothing ! $ owned ! usize (Is usize) (uint-makes 𝓤 H A W w64) n _ (refl, fits) $ join ! $ nothing ! $ join ! $ frame ! $ done !
 
-    goes-bench : (l : List Station) (n : ℕ) → Is R32 l (av l ∷ []) → n < 2 ^ 64 → ent 𝓤 (emp 𝓤) (BenchOf .pre (to-bench l n))
-    goes-bench l n is fits =
+    goes-held : (l : List Station) (n : ℕ) → Is R32 l (av l ∷ []) → n < 2 ^ 64 → ent 𝓤 (emp 𝓤) (BenchOf .pre (to-held l n))
+    goes-held l n is fits =
         qed W [] ∵ nothing ! $ owned ! usize (Is usize) (uint-makes 𝓤 H A W w64) n _ (refl, fits) $ join ! $
         owned ! R32 (Is R32) (array-makes 𝓤 H A W R (LL.makes T.the-type T′.the-plain 𝓤 H A) 32) l _ is $ join ! $ nothing ! $ join ! $ frame ! $ done !
 
@@ -165,11 +165,11 @@ module _ {M : Type 1} (𝓤 : URA M) (H : Heap 𝓤) (A : Atoms 𝓤) (W : Given
   abbrev Post : Val → SProp 𝓤
   Post = walkOf 𝓤 H A f.ended stayed (f.clauses 𝓤 H A at-mem run) .post (((κ, tt), (q, tt), tt, x, (s ∷ [], tt)), tt)
 
-  exits : Is B.the-row (benchOf ys) (bval (benchOf ys) ∷ []) → ent 𝓤 (A .lft κ q) (Post (bval (benchOf ys)))
+  exits : Is B.the-row (heldOf ys) (bval (heldOf ys) ∷ []) → ent 𝓤 (A .lft κ q) (Post (bval (heldOf ys)))
   exits is =
       qed W (‵ (flft κ q) ∷ []) ∵
-      suffices ! _ (ends-at 𝓤 H A f.ended stayed (f.clauses 𝓤 H A at-mem run) W (((κ, tt), (q, tt), tt, x, (s ∷ [], tt)), tt) (bval (benchOf ys)) (benchOf ys) (tt, tt) (tt, tt)) $ says ! refl $
-      nothing ! $ move ! (1 ∷ 0 ∷ []) $ join ! $ frame ! $ nothing ! $ nothing ! $ fjoin ! $ frame ! $ owned ! B.the-row (Is B.the-row) (LL.makes B.the-type B′.the-plain 𝓤 H A) (benchOf ys) _ is $ done !
+      suffices ! _ (ends-at 𝓤 H A f.ended stayed (f.clauses 𝓤 H A at-mem run) W (((κ, tt), (q, tt), tt, x, (s ∷ [], tt)), tt) (bval (heldOf ys)) (heldOf ys) (tt, tt) (tt, tt)) $ says ! refl $
+      nothing ! $ move ! (1 ∷ 0 ∷ []) $ join ! $ frame ! $ nothing ! $ nothing ! $ fjoin ! $ frame ! $ owned ! B.the-row (Is B.the-row) (LL.makes B.the-type B′.the-plain 𝓤 H A) (heldOf ys) _ is $ done !
 
   -- the loop's state: how many stations have been gathered
   abbrev Upto : Type 0
@@ -181,7 +181,7 @@ module _ {M : Type 1} (𝓤 : URA M) (H : Heap 𝓤) (A : Atoms 𝓤) (W : Given
   Nearer-wf : WellFounded Nearer
   Nearer-wf = InvImage·wf (λ (i : Upto). m - i .0) (Nat·lt-wfRel .wf)
 
-  module _ (𝓣 : Tables 𝓤 H) (known-blanks : Triple 𝓤 (𝓣 .C #blanks) (Blanks 𝓤 H A at-mem run)) (known-kept : Triple 𝓤 (𝓣 .C #kept) (Kept 𝓤 H A at-mem run)) (known-bench : Triple 𝓤 (𝓣 .C #bench-of) (BenchOf 𝓤 H A at-mem run)) where
+  module _ (𝓣 : Tables 𝓤 H) (known-blanks : Triple 𝓤 (𝓣 .C #blanks) (Blanks 𝓤 H A at-mem run)) (known-kept : Triple 𝓤 (𝓣 .C #kept) (Kept 𝓤 H A at-mem run)) (known-held : Triple 𝓤 (𝓣 .C #held-of) (BenchOf 𝓤 H A at-mem run)) where
     abbrev C : Calls 𝓤 H
     C = 𝓣 .C
 
@@ -237,14 +237,14 @@ module _ {M : Type 1} (𝓤 : URA M) (H : Heap 𝓤) (A : Atoms 𝓤) (W : Given
           move ! (1 ∷ []) $ facts ! R32 (Is R32) (shows 𝓤 H A R32) now (av now ∷ []) (λ is-now. move ! (1 ∷ 2 ∷ 3 ∷ 4 ∷ 5 ∷ 0 ∷ []) $
           assigns ! (of-opd ! (load ! (from ! (stop !)) (look ! 5 refl))) (from ! (stop !)) (init ! 13 refl (typed32 𝓤 H A W now is-now)) $
           assigns ! (of-opd ! (load ! (from ! (fld ! refl (stop !))) (look-in ! 3 (sub ! 1 refl (whole !))))) (from ! (stop !)) (init ! 15 refl (tt, record { fits = room .0 })) $
-          calls-plain ! (fmOf 𝓤 H (W .laws) 𝓣) (BenchOf 𝓤 H A at-mem run) known-bench (to-bench 𝓤 H A at-mem run now n) (goes-bench 𝓤 H A at-mem run W now n is-now (room .0))
-          B.the-row bval (LL.tells B.the-type B′.the-laws) (bench now n) (bench-ens 𝓤 H A at-mem run now n) (λ v. id⊢ 𝓤 _) (bench-says 𝓤 H A at-mem run now n)
+          calls-plain ! (fmOf 𝓤 H (W .laws) 𝓣) (BenchOf 𝓤 H A at-mem run) known-held (to-held 𝓤 H A at-mem run now n) (goes-held 𝓤 H A at-mem run W now n is-now (room .0))
+          B.the-row bval (LL.tells B.the-type B′.the-laws) (held now n) (held-ens 𝓤 H A at-mem run now n) (λ v. id⊢ 𝓤 _) (held-says 𝓤 H A at-mem run now n)
           (and-then ! (load ! (from ! (stop !)) (look ! 14 refl)) (and-then ! (load ! (from ! (stop !)) (look ! 16 refl)) (no-more !))) (λ is.
-          land ! (from ! (stop !)) (init ! 1 refl (LL.lawful B.the-type B′.the-laws 𝓤 H A W .typed (bench now n) _ is .0)) $
-          rewrite ! 1 (λ (z : Bench). ‵ (fat fullShare B′.mir (lies E 0) 0 (bval z))) (all over) refl $
+          land ! (from ! (stop !)) (init ! 1 refl (LL.lawful B.the-type B′.the-laws 𝓤 H A W .typed (held now n) _ is .0)) $
+          rewrite ! 1 (λ (z : HeldRow). ‵ (fat fullShare B′.mir (lies E 0) 0 (bval z))) (all over) refl $
           forget ! 13 refl $ forget ! 15 refl $ forget ! 17 refl $ returns ! (look ! 1 refl) $ move ! (upFrom 1 28) $
-          frees-all ! E (full (bval (benchOf ys)) ∷ full s ∷ full (av now) ∷ full (vint w64 m) ∷ full (vint w64 (i .0)) ∷ []) $
-          by ! (exits (subst (λ (z : Bench). Is B.the-row z (bval z ∷ [])) (all over) is)))))
+          frees-all ! E (full (bval (heldOf ys)) ∷ full s ∷ full (av now) ∷ full (vint w64 m) ∷ full (vint w64 (i .0)) ∷ []) $
+          by ! (exits (subst (λ (z : HeldRow). Is B.the-row z (bval z ∷ [])) (all over) is)))))
         where
           now : List Station
           now = gathered ys (i .0)
@@ -261,7 +261,7 @@ module _ {M : Type 1} (𝓤 : URA M) (H : Heap 𝓤) (A : Atoms 𝓤) (W : Given
           next-fits : i .0 < n → i .0 + 1 < 2 ^ 64
           next-fits within = lt-of-le-of-lt (add-one-le within) (room .0)
 
-          all : Holds (not (ltb (i .0) m)) → bench now n ≡ benchOf ys
+          all : Holds (not (ltb (i .0) m)) → held now n ≡ heldOf ys
           all over = gather-all ys (i .0) (le-antisymm (i .1) (nltb→le (i .0) m over))
 
     walk : ent 𝓤 (onEntry 𝓤 H A f.signature (κ, tt) (q, tt) x (s ∷ [], tt)) (WpFn 𝓤 H C Λ code.function (s ∷ []) Post)
@@ -288,10 +288,10 @@ module _ {M : Type 1} (𝓤 : URA M) (H : Heap 𝓤) (A : Atoms 𝓤) (W : Given
         rewrite ! 0 (λ (l : List Station). ‵ (row R fullShare l (lies (envOf mir.locals bs) 2) 0)) (gather-start ys) refl $ move ! (1 ∷ 2 ∷ []) $
         first ! $ blocks ! $ loops ! 𝓣 Nearer Nearer-wf (At bs q′) (turns bs q′) (0, zero-le)))))
 
-module _ {M : Type 1} (𝓤 : URA M) (H : Heap 𝓤) (A : Atoms 𝓤) (W : Given 𝓤 H A) (at-mem : Memory → SProp 𝓤) (run : Routine → Fun 𝓤) (𝓣 : Tables 𝓤 H) (known-blanks : Triple 𝓤 (𝓣 .C #blanks) (Blanks 𝓤 H A at-mem run)) (known-kept : Triple 𝓤 (𝓣 .C #kept) (Kept 𝓤 H A at-mem run)) (known-bench : Triple 𝓤 (𝓣 .C #bench-of) (BenchOf 𝓤 H A at-mem run)) where
+module _ {M : Type 1} (𝓤 : URA M) (H : Heap 𝓤) (A : Atoms 𝓤) (W : Given 𝓤 H A) (at-mem : Memory → SProp 𝓤) (run : Routine → Fun 𝓤) (𝓣 : Tables 𝓤 H) (known-blanks : Triple 𝓤 (𝓣 .C #blanks) (Blanks 𝓤 H A at-mem run)) (known-kept : Triple 𝓤 (𝓣 .C #kept) (Kept 𝓤 H A at-mem run)) (known-held : Triple 𝓤 (𝓣 .C #held-of) (BenchOf 𝓤 H A at-mem run)) where
   gathered-walks : Walks 𝓤 H A f.ended stayed (WpFn 𝓤 H (𝓣 .C) (𝓣 .Λ) code.function) (f.clauses 𝓤 H A at-mem run)
   gathered-walks = walked 𝓤 H A f.ended stayed (f.clauses 𝓤 H A at-mem run) (WpFn 𝓤 H (𝓣 .C) (𝓣 .Λ) code.function) (λ κs. (slice-vals, tt)) (λ κs. (shr-slice-tells (named 0) (κs .0) R, tt))
-      (λ κs qs bounds a g are. via 𝓤 _ (fst∗ 𝓤 _ (emp 𝓤)) (walk 𝓤 H A W at-mem run (κs .0) (qs .0) (a .0 .ptr .0) (a .0 .ptr .1) (a .0 .name) (a .0 .now) (are .0 .0 .1) 𝓣 known-blanks known-kept known-bench))
+      (λ κs qs bounds a g are. via 𝓤 _ (fst∗ 𝓤 _ (emp 𝓤)) (walk 𝓤 H A W at-mem run (κs .0) (qs .0) (a .0 .ptr .0) (a .0 .ptr .1) (a .0 .name) (a .0 .now) (are .0 .0 .1) 𝓣 known-blanks known-kept known-held))
 
   goes : AllGo 𝓤 H A W 1 (f.signature .params) (f.ended .kept) stayed
   goes = (goes-dropped 𝓤 H A W 1 (shrSliceOf (0 ∷ []) tt (plain (λ _. R))) yes (λ κs x f. refl), tt)
@@ -305,6 +305,6 @@ gathered-spec 𝓤 H 𝓜 𝓖 𝓡 =
     entered 𝓤 H (tripleOf 𝓤 H (𝓖 .A) f.signature (f.spec 𝓤 H (𝓖 .A) (𝓜 .mem) (𝓡 .run)))
     (tables 𝓤 H 𝓜 𝓡 code.env .C) (tables 𝓤 H 𝓜 𝓡 code.env .Λ) #gathered code.function (code.unfolded 𝓤 H 𝓜 𝓡)
     (gathered-meets 𝓤 H (𝓖 .A) (givenOf 𝓤 H 𝓜 𝓖) (𝓜 .mem) (𝓡 .run) (tablesOf 𝓤 H 𝓜 (tables 𝓤 H 𝓜 𝓡 code.env))
-    (cited 𝓤 H (Blanks 𝓤 H (𝓖 .A) (𝓜 .mem) (𝓡 .run)) 𝓜 𝓡 code.env #blanks blanks-def.routine code.calls-bench-row·blanks (blanks-thm.met 𝓤 H 𝓜 𝓖 𝓡))
-    (cited 𝓤 H (Kept 𝓤 H (𝓖 .A) (𝓜 .mem) (𝓡 .run)) 𝓜 𝓡 code.env #kept kept-def.routine code.calls-bench-row·kept (kept-thm.met 𝓤 H 𝓜 𝓖 𝓡))
-    (cited 𝓤 H (BenchOf 𝓤 H (𝓖 .A) (𝓜 .mem) (𝓡 .run)) 𝓜 𝓡 code.env #bench-of bench-of-def.routine code.calls-bench-row·bench-of (bench-of-thm.met 𝓤 H 𝓜 𝓖 𝓡)))
+    (cited 𝓤 H (Blanks 𝓤 H (𝓖 .A) (𝓜 .mem) (𝓡 .run)) 𝓜 𝓡 code.env #blanks blanks-def.routine code.calls-held-row·blanks (blanks-thm.met 𝓤 H 𝓜 𝓖 𝓡))
+    (cited 𝓤 H (Kept 𝓤 H (𝓖 .A) (𝓜 .mem) (𝓡 .run)) 𝓜 𝓡 code.env #kept kept-def.routine code.calls-held-row·kept (kept-thm.met 𝓤 H 𝓜 𝓖 𝓡))
+    (cited 𝓤 H (BenchOf 𝓤 H (𝓖 .A) (𝓜 .mem) (𝓡 .run)) 𝓜 𝓡 code.env #held-of held-of-def.routine code.calls-held-row·bench-of (held-of-thm.met 𝓤 H 𝓜 𝓖 𝓡)))

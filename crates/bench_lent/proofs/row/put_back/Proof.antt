@@ -49,13 +49,13 @@ use Rattle.bench.specs.declared.Station.{Station}
 use Rattle.bench.specs.Stations.{blank}
 use Rattle.bench.proofs.Station as T
 use Rattle.bench.proofs.Station.Laws as T′
-use Rattle.bench_row.specs.declared.Bench.{Bench}
+use Rattle.bench_row.specs.declared.HeldRow.{HeldRow}
 use Rattle.loops.specs.Scan.{filled, fill-start, fill-ahead, fill-more, fill-length, fill-all}
 use Rattle.bench_lent.specs.Restoring.{putBack, put-length}
 use Rattle.walks.specs.Walk.{LocalsAt, envOf, Locals, allocs-all, frees-all, calls-plain, tests, upFrom, lies}
 use Rattle.bench_lent.proofs.Cells.{scaled}
-use Rattle.bench_row.proofs.Bench as B
-use Rattle.bench_row.proofs.Bench.Laws as B′
+use Rattle.bench_row.proofs.HeldRow as B
+use Rattle.bench_row.proofs.HeldRow.Laws as B′
 use Rattle.bench_row.proofs.station_at as station-at
 use Rattle.bench_row.proofs.station_at.Symbol as station-at-def
 use Rattle.bench_row.proofs.station_at.Symbol.{name as #station-at}
@@ -69,7 +69,7 @@ use Rattle.bench_lent.proofs.row.put_back.Code.Mir as mir
 abbrev R : RattleType
 R = T.the-row
 
--- the row is still owned at exit. Of the bench nothing is: it is as it was passed
+-- the row is still owned at exit. Of the held row nothing is: it is as it was passed
 abbrev stayed : Stays (f.ended .signature .params) (f.ended .kept)
 stayed = (stay-slice (0 ∷ []) tt (plain (λ _. R)), (stay-dropped (plain (λ _. B.the-row)) yes, tt))
 
@@ -77,7 +77,7 @@ stayed = (stay-slice (0 ∷ []) tt (plain (λ _. R)), (stay-dropped (plain (λ _
 abbrev val : Station → Val
 val = LL.val T.the-type T′.the-laws
 
-abbrev bval : Bench → Val
+abbrev bval : HeldRow → Val
 bval = LL.val B.the-type B′.the-laws
 
 -- what the call asks and answers
@@ -85,28 +85,28 @@ module _ {M : Type 1} (𝓤 : URA M) (H : Heap 𝓤) (A : Atoms 𝓤) (mem : Mem
   abbrev Call : Contract 𝓤
   Call = tripleOf 𝓤 H A station-at.signature (station-at.spec 𝓤 H A mem run)
 
-  abbrev ens : Bench → ℕ → Station → Station → SProp 𝓤
+  abbrev ens : HeldRow → ℕ → Station → Station → SProp 𝓤
   ens c i s = ensured 𝓤 H A station-at.ended (station-at.clauses 𝓤 H A mem run) tt (c, (i, (s, tt))) tt
 
-  told : (c : Bench) (i : ℕ) (s r : Station) → ent 𝓤 (ens c i s r) (fact 𝓤 (r ≡ getD (c .at) i s))
+  told : (c : HeldRow) (i : ℕ) (s r : Station) → ent 𝓤 (ens c i s r) (fact 𝓤 (r ≡ getD (c .at) i s))
   told c i s r = exE 𝓤 _ (λ ws. snd∗ 𝓤 (sem 𝓤 H A (lasts station-at.ended tt (c, (i, (s, tt))) ws)) (fact 𝓤 (r ≡ getD (c .at) i s)))
 
-  abbrev to : Bench → ℕ → Station → Call .Ghost
+  abbrev to : HeldRow → ℕ → Station → Call .Ghost
   to c i s = ((tt, tt, tt, (c, (i, (s, tt))), (bval c ∷ [], (vint w64 i ∷ [], (val s ∷ [], tt)))), tt)
 
-  asked : (W : Given 𝓤 H A) (c : Bench) (i : ℕ) (s : Station) → Is B.the-row c (bval c ∷ []) → i < 2 ^ 64 → Is R s (val s ∷ []) → ent 𝓤 (emp 𝓤) (Call .pre (to c i s))
+  asked : (W : Given 𝓤 H A) (c : HeldRow) (i : ℕ) (s : Station) → Is B.the-row c (bval c ∷ []) → i < 2 ^ 64 → Is R s (val s ∷ []) → ent 𝓤 (emp 𝓤) (Call .pre (to c i s))
   asked W c i s is-c fits is-s =
       qed W [] ∵ nothing ! $ owned ! R (Is R) (LL.makes T.the-type T′.the-plain 𝓤 H A) s _ is-s $ join ! $ owned ! usize (Is usize) (uint-makes 𝓤 H A W w64) i _ (refl, fits) $ join ! $
       owned ! B.the-row (Is B.the-row) (LL.makes B.the-type B′.the-plain 𝓤 H A) c _ is-c $ join ! $ nothing ! $ join ! $ frame ! $ done !
 
-module _ {M : Type 1} (𝓤 : URA M) (H : Heap 𝓤) (A : Atoms 𝓤) (W : Given 𝓤 H A) (at-mem : Memory → SProp 𝓤) (run : Routine → Fun 𝓤) (κ : Lft) (q : Share) (b o : ℕ) (γ : GName) (ys : List Station) (room : Room R (length ys)) (c : Bench) (is-c : Is B.the-row c (bval c ∷ [])) where
+module _ {M : Type 1} (𝓤 : URA M) (H : Heap 𝓤) (A : Atoms 𝓤) (W : Given 𝓤 H A) (at-mem : Memory → SProp 𝓤) (run : Routine → Fun 𝓤) (κ : Lft) (q : Share) (b o : ℕ) (γ : GName) (ys : List Station) (room : Room R (length ys)) (c : HeldRow) (is-c : Is B.the-row c (bval c ∷ [])) where
   abbrev n : ℕ
   n = length ys
 
   abbrev row-at : List Station → RefT (List Station)
   row-at l = record { ptr = (b, o); name = γ; now = l }
 
-  abbrev x : RefT (List Station) × (Bench × Unit {0})
+  abbrev x : RefT (List Station) × (HeldRow × Unit {0})
   x = (row-at ys, (c, tt))
 
   abbrev s : Val
@@ -249,4 +249,4 @@ put-back-spec 𝓤 H 𝓜 𝓖 𝓡 =
     entered 𝓤 H (tripleOf 𝓤 H (𝓖 .A) f.signature (f.spec 𝓤 H (𝓖 .A) (𝓜 .mem) (𝓡 .run)))
     (tables 𝓤 H 𝓜 𝓡 code.env .C) (tables 𝓤 H 𝓜 𝓡 code.env .Λ) #put-back code.function (code.unfolded 𝓤 H 𝓜 𝓡)
     (put-back-meets 𝓤 H (𝓖 .A) (givenOf 𝓤 H 𝓜 𝓖) (𝓜 .mem) (𝓡 .run) (tablesOf 𝓤 H 𝓜 (tables 𝓤 H 𝓜 𝓡 code.env))
-    (cited 𝓤 H (Call 𝓤 H (𝓖 .A) (𝓜 .mem) (𝓡 .run)) 𝓜 𝓡 code.env #station-at station-at-def.routine code.calls-bench-row·station-at (station-at-thm.met 𝓤 H 𝓜 𝓖 𝓡)))
+    (cited 𝓤 H (Call 𝓤 H (𝓖 .A) (𝓜 .mem) (𝓡 .run)) 𝓜 𝓡 code.env #station-at station-at-def.routine code.calls-held-row·station-at (station-at-thm.met 𝓤 H 𝓜 𝓖 𝓡)))

@@ -1,5 +1,5 @@
 -- `bench_lent::round` meets its contract: a walk of its code, by hand. The row is passed on to `gathered` and is had again, the
--- round is played on the bench with the words, which are given for good, and the row is given for good to `put_back`.
+-- round is played on the held row with the words, which are given for good, and the row is given for good to `put_back`.
 use mathlib.Core.Path.{_≡_, refl, ap}
 use mathlib.Core.Option.{some as full}
 use Prim.Native.Nat.{ℕ}
@@ -41,16 +41,16 @@ use Rattle.bench.specs.declared.RoundAnswer.{RoundAnswer}
 use Rattle.bench.proofs.Station as T
 use Rattle.bench.proofs.RoundAnswer as N
 use Rattle.bench.proofs.RoundAnswer.Laws as N′
-use Rattle.bench_row.specs.declared.Bench.{Bench}
+use Rattle.bench_row.specs.declared.HeldRow.{HeldRow}
 use Rattle.bench_round.specs.declared.Played.{Played}
-use Rattle.bench_row.specs.Benches.{benchOf}
+use Rattle.bench_row.specs.HeldRows.{heldOf}
 use Rattle.bench_round.specs.Rounds.{PlayedBy}
 use Rattle.bench_lent.specs.Restoring.{putBack, put-length}
 use Rattle.bench_lent.specs.LentRound.{round-kept}
 use Rattle.walks.specs.Walk.{envOf, allocs-all, frees-all, upFrom, lies}
 use Rattle.bench_lent.proofs.Passing.{bval, Gathered, PutBack, calls-gathered, calls-put-back}
-use Rattle.bench_row.proofs.Bench as B
-use Rattle.bench_row.proofs.Bench.Laws as B′
+use Rattle.bench_row.proofs.HeldRow as B
+use Rattle.bench_row.proofs.HeldRow.Laws as B′
 use Rattle.bench_round.proofs.Played as P
 use Rattle.bench_round.proofs.Played.Laws as P′
 use Rattle.bench_lent.proofs.row.gathered.Symbol as gathered-def
@@ -83,12 +83,12 @@ nval = LL.val N.the-type N′.the-laws
 abbrev pval : Played → Val
 pval = LL.val P.the-type P′.the-laws
 
--- what the round on the bench asks and answers
+-- what the round on the held row asks and answers
 module _ {M : Type 1} (𝓤 : URA M) (H : Heap 𝓤) (A : Atoms 𝓤) (mem : Memory → SProp 𝓤) (run : Routine → Fun 𝓤) where
   abbrev Call : Contract 𝓤
   Call = tripleOf 𝓤 H A round-on.signature (round-on.spec 𝓤 H A mem run)
 
-  module _ (κ : Lft) (q : Share) (c : Bench) (m : RefT (List ℕ)) where
+  module _ (κ : Lft) (q : Share) (c : HeldRow) (m : RefT (List ℕ)) where
     abbrev Says : Played → List ℕ → Type 0
     Says r new = PlayedBy c (m .now) new r
 
@@ -123,17 +123,17 @@ module _ {M : Type 1} (𝓤 : URA M) (H : Heap 𝓤) (A : Atoms 𝓤) (W : Given
   abbrev at : List Val × (List Val × Unit {0})
   at = (s ∷ [], (w ∷ [], tt))
 
-  abbrev c : Bench
-  c = benchOf ys
+  abbrev c : HeldRow
+  c = heldOf ys
 
   abbrev Post : Val → SProp 𝓤
   Post = walkOf 𝓤 H A f.ended stayed (f.clauses 𝓤 H A at-mem run) .post (((κ, (κ′, tt)), (q, (q′, tt)), tt, x, at), tt)
 
   exits : (r : Played) (new : List ℕ) → Says 𝓤 H A at-mem run κ′ q′ c m r new → length new ≡ length ws → Is N.the-row (r .answer) (nval (r .answer) ∷ [])
-      → ent 𝓤 (⋆ 𝓤 H A (‵ (finally R γ (putBack (r .bench) ys)) ∷ ‵ (flft κ q) ∷ ‵ (finally u32 γ′ new) ∷ ‵ (flft κ′ q′) ∷ [])) (Post (nval (r .answer)))
+      → ent 𝓤 (⋆ 𝓤 H A (‵ (finally R γ (putBack (r .held) ys)) ∷ ‵ (flft κ q) ∷ ‵ (finally u32 γ′ new) ∷ ‵ (flft κ′ q′) ∷ [])) (Post (nval (r .answer)))
   exits r new e long is =
-      qed W (‵ (finally R γ (putBack (r .bench) ys)) ∷ ‵ (flft κ q) ∷ ‵ (finally u32 γ′ new) ∷ ‵ (flft κ′ q′) ∷ []) ∵
-      suffices ! _ (ends-at 𝓤 H A f.ended stayed (f.clauses 𝓤 H A at-mem run) W (((κ, (κ′, tt)), (q, (q′, tt)), tt, x, at), tt) (nval (r .answer)) (r .answer) (putBack (r .bench) ys, (new, tt)) (put-length (r .bench) ys, (long, tt))) $
+      qed W (‵ (finally R γ (putBack (r .held) ys)) ∷ ‵ (flft κ q) ∷ ‵ (finally u32 γ′ new) ∷ ‵ (flft κ′ q′) ∷ []) ∵
+      suffices ! _ (ends-at 𝓤 H A f.ended stayed (f.clauses 𝓤 H A at-mem run) W (((κ, (κ′, tt)), (q, (q′, tt)), tt, x, at), tt) (nval (r .answer)) (r .answer) (putBack (r .held) ys, (new, tt)) (put-length (r .held) ys, (long, tt))) $
       says ! (round-kept ys ws new r e) $
       nothing ! $ move ! (4 ∷ 0 ∷ []) $ join ! $ move ! (2 ∷ 0 ∷ []) $ join ! $ frame ! $ nothing ! $ move ! (2 ∷ 0 ∷ []) $ fjoin ! $ move ! (1 ∷ 0 ∷ []) $ fjoin ! $ frame ! $
       owned ! N.the-row (Is N.the-row) (LL.makes N.the-type N′.the-plain 𝓤 H A) (r .answer) _ is $ done !
@@ -166,7 +166,7 @@ module _ {M : Type 1} (𝓤 : URA M) (H : Heap 𝓤) (A : Atoms 𝓤) (W : Given
         rewrite ! 13 (λ (u : Val). ‵ (fat fullShare P′.mir (lies (envOf mir.locals bs) 4) 0 u)) (ap only (LL.tells P.the-type P′.the-laws r _ is)) refl $
         assigns ! (addr ! (from ! (fld ! refl (hop ! (look-in ! 7 (sub ! 0 refl (whole !))) (stop !))))) (from ! (stop !)) (init ! 25 refl (tt, tt)) $
         assigns ! (agg ! (and-then ! (load ! (from ! (stop !)) (look ! 25 refl)) (and-then ! (load ! (from ! (fld ! refl (stop !))) (look-in ! 7 (sub ! 1 refl (whole !)))) (no-more !)))) (from ! (stop !)) (init ! 27 refl (tt, (tt, (record { fits = room .0 }, tt)))) $
-        calls-put-back ! (fmOf 𝓤 H (W .laws) 𝓣) at-mem run κ q γ b o ys room known-put-back (r .bench) (LL.owed P.the-type P′.the-laws r _ is .0)
+        calls-put-back ! (fmOf 𝓤 H (W .laws) 𝓣) at-mem run κ q γ b o ys room known-put-back (r .held) (LL.owed P.the-type P′.the-laws r _ is .0)
         (and-then ! (load ! (from ! (stop !)) (look ! 25 refl)) (and-then ! (load ! (from ! (fld ! refl (stop !))) (look-in ! 11 (sub ! 0 refl (whole !)))) (no-more !)))
         -- [the row's last list; the token; the words' last list; their token], and local i at 4 + 2 i
         (land ! (from ! (stop !)) (init ! 22 refl (tt, tt)) $
@@ -193,6 +193,6 @@ round-spec 𝓤 H 𝓜 𝓖 𝓡 =
     entered 𝓤 H (tripleOf 𝓤 H (𝓖 .A) f.signature (f.spec 𝓤 H (𝓖 .A) (𝓜 .mem) (𝓡 .run)))
     (tables 𝓤 H 𝓜 𝓡 code.env .C) (tables 𝓤 H 𝓜 𝓡 code.env .Λ) #round code.function (code.unfolded 𝓤 H 𝓜 𝓡)
     (round-meets 𝓤 H (𝓖 .A) (givenOf 𝓤 H 𝓜 𝓖) (𝓜 .mem) (𝓡 .run) (tablesOf 𝓤 H 𝓜 (tables 𝓤 H 𝓜 𝓡 code.env))
-    (cited 𝓤 H (Gathered 𝓤 H (𝓖 .A) (𝓜 .mem) (𝓡 .run)) 𝓜 𝓡 code.env #gathered gathered-def.routine code.calls-bench-lent·row·gathered (gathered-thm.met 𝓤 H 𝓜 𝓖 𝓡))
-    (cited 𝓤 H (PutBack 𝓤 H (𝓖 .A) (𝓜 .mem) (𝓡 .run)) 𝓜 𝓡 code.env #put-back put-back-def.routine code.calls-bench-lent·row·put-back (put-back-thm.met 𝓤 H 𝓜 𝓖 𝓡))
-    (cited 𝓤 H (Call 𝓤 H (𝓖 .A) (𝓜 .mem) (𝓡 .run)) 𝓜 𝓡 code.env #round-on round-on-def.routine code.calls-bench-round·round-on (round-on-thm.met 𝓤 H 𝓜 𝓖 𝓡)))
+    (cited 𝓤 H (Gathered 𝓤 H (𝓖 .A) (𝓜 .mem) (𝓡 .run)) 𝓜 𝓡 code.env #gathered gathered-def.routine code.calls-held-lent·row·gathered (gathered-thm.met 𝓤 H 𝓜 𝓖 𝓡))
+    (cited 𝓤 H (PutBack 𝓤 H (𝓖 .A) (𝓜 .mem) (𝓡 .run)) 𝓜 𝓡 code.env #put-back put-back-def.routine code.calls-held-lent·row·put-back (put-back-thm.met 𝓤 H 𝓜 𝓖 𝓡))
+    (cited 𝓤 H (Call 𝓤 H (𝓖 .A) (𝓜 .mem) (𝓡 .run)) 𝓜 𝓡 code.env #round-on round-on-def.routine code.calls-held-round·round-on (round-on-thm.met 𝓤 H 𝓜 𝓖 𝓡)))

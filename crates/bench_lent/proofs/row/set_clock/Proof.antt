@@ -1,5 +1,5 @@
 -- `bench_lent::set_clock` meets its contract: a walk of its code, by hand. The row is passed on to `gathered` and is had again,
--- the bench is worked on by value, and the row is given for good to `put_back`.
+-- the held row is worked on by value, and the row is given for good to `put_back`.
 use mathlib.Core.Path.{refl}
 use mathlib.Core.Option.{some as full}
 use Prim.Native.Nat.{ℕ, _<_, _^_}
@@ -45,17 +45,17 @@ use Rattle.bench.specs.declared.Called.{Called}
 use Rattle.bench.proofs.Station as T
 use Rattle.bench.proofs.Called as A′
 use Rattle.bench.proofs.Called.Laws as A″
-use Rattle.bench_row.specs.declared.Bench.{Bench}
+use Rattle.bench_row.specs.declared.HeldRow.{HeldRow}
 use Rattle.bench_calls.specs.declared.Changed.{Changed}
-use Rattle.bench_row.specs.Benches.{benchOf}
+use Rattle.bench_row.specs.HeldRows.{heldOf}
 use Rattle.bench.specs.Calls as calls
-use Rattle.bench_calls.specs.Changes.{ChangedBy, callNumber, clockedBench}
+use Rattle.bench_calls.specs.Changes.{ChangedBy, callNumber, clockedRow}
 use Rattle.bench_lent.specs.Restoring.{putBack, put-length}
 use Rattle.bench_lent.specs.Lent.{clock-kept}
 use Rattle.walks.specs.Walk.{envOf, allocs-all, frees-all, calls-known, upFrom}
 use Rattle.bench_lent.proofs.Passing.{bval, Gathered, PutBack, calls-gathered, calls-put-back}
-use Rattle.bench_row.proofs.Bench as B
-use Rattle.bench_row.proofs.Bench.Laws as B′
+use Rattle.bench_row.proofs.HeldRow as B
+use Rattle.bench_row.proofs.HeldRow.Laws as B′
 use Rattle.bench_calls.proofs.Changed as S
 use Rattle.bench_calls.proofs.Changed.Laws as S′
 use Rattle.bench_lent.proofs.row.gathered.Symbol as gathered-def
@@ -91,14 +91,14 @@ kval = LL.val K.the-type K′.the-laws
 abbrev sval : Changed → Val
 sval = LL.val S.the-type S′.the-laws
 
--- what the call on the bench asks and answers
+-- what the call on the held row asks and answers
 module _ {M : Type 1} (𝓤 : URA M) (H : Heap 𝓤) (A : Atoms 𝓤) (mem : Memory → SProp 𝓤) (run : Routine → Fun 𝓤) where
   abbrev Call : Contract 𝓤
   Call = tripleOf 𝓤 H A set-clock-on.signature (set-clock-on.spec 𝓤 H A mem run)
 
-  module _ (c : Bench) (i : ℕ) (k : Clock) where
+  module _ (c : HeldRow) (i : ℕ) (k : Clock) where
     abbrev Says : Changed → Type 0
-    Says r = ChangedBy c (callNumber (calls.setClock i k) c) (clockedBench c i k) r
+    Says r = ChangedBy c (callNumber (calls.setClock i k) c) (clockedRow c i k) r
 
     abbrev ens : Changed → SProp 𝓤
     ens = ensured 𝓤 H A set-clock-on.ended (set-clock-on.clauses 𝓤 H A mem run) tt (c, (i, (k, tt))) tt
@@ -124,17 +124,17 @@ module _ {M : Type 1} (𝓤 : URA M) (H : Heap 𝓤) (A : Atoms 𝓤) (W : Given
   abbrev at : List Val × (List Val × (List Val × Unit {0}))
   at = (s ∷ [], (vint w64 i ∷ [], (kval k ∷ [], tt)))
 
-  abbrev c : Bench
-  c = benchOf ys
+  abbrev c : HeldRow
+  c = heldOf ys
 
   abbrev Post : Val → SProp 𝓤
   Post = walkOf 𝓤 H A f.ended stayed (f.clauses 𝓤 H A at-mem run) .post (((κ, tt), (q, tt), tt, x, at), tt)
 
   exits : (r : Changed) → Says 𝓤 H A at-mem run c i k r → Is A′.the-row (r .called) (aval (r .called) ∷ [])
-      → ent 𝓤 (⋆ 𝓤 H A (‵ (finally R γ (putBack (r .bench) ys)) ∷ ‵ (flft κ q) ∷ [])) (Post (aval (r .called)))
+      → ent 𝓤 (⋆ 𝓤 H A (‵ (finally R γ (putBack (r .held) ys)) ∷ ‵ (flft κ q) ∷ [])) (Post (aval (r .called)))
   exits r e is =
-      qed W (‵ (finally R γ (putBack (r .bench) ys)) ∷ ‵ (flft κ q) ∷ []) ∵
-      suffices ! _ (ends-at 𝓤 H A f.ended stayed (f.clauses 𝓤 H A at-mem run) W (((κ, tt), (q, tt), tt, x, at), tt) (aval (r .called)) (r .called) (putBack (r .bench) ys, (tt, (tt, tt))) (put-length (r .bench) ys, (tt, (tt, tt)))) $
+      qed W (‵ (finally R γ (putBack (r .held) ys)) ∷ ‵ (flft κ q) ∷ []) ∵
+      suffices ! _ (ends-at 𝓤 H A f.ended stayed (f.clauses 𝓤 H A at-mem run) W (((κ, tt), (q, tt), tt, x, at), tt) (aval (r .called)) (r .called) (putBack (r .held) ys, (tt, (tt, tt))) (put-length (r .held) ys, (tt, (tt, tt)))) $
       says ! (clock-kept ys i r k e) $
       nothing ! $ move ! (2 ∷ 0 ∷ []) $ join ! $ frame ! $ nothing ! $ nothing ! $ fjoin ! $ nothing ! $ fjoin ! $ move ! (1 ∷ 0 ∷ []) $ fjoin ! $ frame ! $
       owned ! A′.the-row (Is A′.the-row) (EL.makes A′.the-type A″.the-plain 𝓤 H A) (r .called) _ is $ done !
@@ -157,7 +157,7 @@ module _ {M : Type 1} (𝓤 : URA M) (H : Heap 𝓤) (A : Atoms 𝓤) (W : Given
         land ! (from ! (stop !)) (init ! 13 refl (LL.lawful S.the-type S′.the-laws 𝓤 H A W .typed r _ is-r .0)) $
         assigns ! (addr ! (from ! (fld ! refl (hop ! (look-in ! 5 (sub ! 0 refl (whole !))) (stop !))))) (from ! (stop !)) (init ! 21 refl (tt, tt)) $
         assigns ! (agg ! (and-then ! (load ! (from ! (stop !)) (look ! 21 refl)) (and-then ! (load ! (from ! (fld ! refl (stop !))) (look-in ! 5 (sub ! 1 refl (whole !)))) (no-more !)))) (from ! (stop !)) (init ! 23 refl (tt, (tt, (record { fits = room .0 }, tt)))) $
-        calls-put-back ! (fmOf 𝓤 H (W .laws) 𝓣) at-mem run κ q γ b o ys room known-put-back (r .bench) (LL.owed S.the-type S′.the-laws r _ is-r .0)
+        calls-put-back ! (fmOf 𝓤 H (W .laws) 𝓣) at-mem run κ q γ b o ys room known-put-back (r .held) (LL.owed S.the-type S′.the-laws r _ is-r .0)
         (and-then ! (load ! (from ! (stop !)) (look ! 21 refl)) (and-then ! (load ! (from ! (fld ! refl (stop !))) (look-in ! 11 (sub ! 0 refl (whole !)))) (no-more !)))
         -- [the row's last list; the token], and local i at 2 + 2 i
         (land ! (from ! (stop !)) (init ! 18 refl (tt, tt)) $
@@ -183,6 +183,6 @@ set-clock-spec 𝓤 H 𝓜 𝓖 𝓡 =
     entered 𝓤 H (tripleOf 𝓤 H (𝓖 .A) f.signature (f.spec 𝓤 H (𝓖 .A) (𝓜 .mem) (𝓡 .run)))
     (tables 𝓤 H 𝓜 𝓡 code.env .C) (tables 𝓤 H 𝓜 𝓡 code.env .Λ) #set-clock code.function (code.unfolded 𝓤 H 𝓜 𝓡)
     (set-clock-meets 𝓤 H (𝓖 .A) (givenOf 𝓤 H 𝓜 𝓖) (𝓜 .mem) (𝓡 .run) (tablesOf 𝓤 H 𝓜 (tables 𝓤 H 𝓜 𝓡 code.env))
-    (cited 𝓤 H (Gathered 𝓤 H (𝓖 .A) (𝓜 .mem) (𝓡 .run)) 𝓜 𝓡 code.env #gathered gathered-def.routine code.calls-bench-lent·row·gathered (gathered-thm.met 𝓤 H 𝓜 𝓖 𝓡))
-    (cited 𝓤 H (PutBack 𝓤 H (𝓖 .A) (𝓜 .mem) (𝓡 .run)) 𝓜 𝓡 code.env #put-back put-back-def.routine code.calls-bench-lent·row·put-back (put-back-thm.met 𝓤 H 𝓜 𝓖 𝓡))
-    (cited 𝓤 H (Call 𝓤 H (𝓖 .A) (𝓜 .mem) (𝓡 .run)) 𝓜 𝓡 code.env #set-clock-on set-clock-on-def.routine code.calls-bench-calls·set-clock-on (set-clock-on-thm.met 𝓤 H 𝓜 𝓖 𝓡)))
+    (cited 𝓤 H (Gathered 𝓤 H (𝓖 .A) (𝓜 .mem) (𝓡 .run)) 𝓜 𝓡 code.env #gathered gathered-def.routine code.calls-held-lent·row·gathered (gathered-thm.met 𝓤 H 𝓜 𝓖 𝓡))
+    (cited 𝓤 H (PutBack 𝓤 H (𝓖 .A) (𝓜 .mem) (𝓡 .run)) 𝓜 𝓡 code.env #put-back put-back-def.routine code.calls-held-lent·row·put-back (put-back-thm.met 𝓤 H 𝓜 𝓖 𝓡))
+    (cited 𝓤 H (Call 𝓤 H (𝓖 .A) (𝓜 .mem) (𝓡 .run)) 𝓜 𝓡 code.env #set-clock-on set-clock-on-def.routine code.calls-held-calls·set-clock-on (set-clock-on-thm.met 𝓤 H 𝓜 𝓖 𝓡)))

@@ -8,7 +8,7 @@ use Rattle.symbol.specs.declared.Symbol.{Symbol}
 use Rattle.symbol.specs.declared.Symbol.the-variants.{Noise, Bit0, Bit1, Eod, Sof, Eof, Ifs, Break, Stuck}
 use Rattle.symbol.proofs.Symbol.{the-type}
 use Rattle.frame.specs.Line.{is}
-use Rattle.bench.specs.Round.{onLine}
+use Rattle.bench.specs.Course.{onLine}
 use borrow.Author.Needs.{needs}
 use Rattle.bench_line.proofs.lanes.on_line.Statement.{statement}
 use Rattle.bench_line.proofs.lanes.on_line.Tie as tie

@@ -1,6 +1,6 @@
 -- `bench_line::send_bits` meets its contract: what is written and what is still to come make up the whole, at each bit.
 use Prim.Native.Nat.{_-_}
-use Rattle.bench.specs.Round.{mostBits}
+use Rattle.bench.specs.Course.{mostBits}
 use Rattle.bench_line.specs.Lanes.{lanesOf}
 use Rattle.bench_line.specs.Sending.{Sending, sending-start, sending-more, sending-over, sending-last}
 use borrow.Author.Needs.{needs}

@@ -1,4 +1,4 @@
--- `c_calls::j1850_round` gives what the bench promises: a walk of its code, by hand. All that is lent is handed on.
+-- `c_calls::j1850_round` gives what the held row promises: a walk of its code, by hand. All that is lent is handed on.
 use mathlib.Core.Path.{_≡_, refl, ap}
 use mathlib.Core.Option.{some as full}
 use Prim.Native.Nat.{ℕ}
@@ -32,7 +32,7 @@ use denote.Triple.Table.{entered, cited}
 use denote.Triple.Clauses.{ensured, Lasts, lasts}
 use Rattle.bench.specs.declared.Station.{Station}
 use Rattle.bench.specs.declared.RoundAnswer.{RoundAnswer}
-use Rattle.bench.specs.Promises.{RoundPromise, said}
+use Rattle.bench.specs.Promise.{RoundPromise, said}
 use Rattle.bench.proofs.Station as T
 use Rattle.bench.proofs.RoundAnswer as C
 use Rattle.bench.proofs.RoundAnswer.Laws as C′
@@ -63,7 +63,7 @@ answer-val = LL.val C.the-type C′.the-laws
 abbrev numbered-val : plain.RoundAnswer → Val
 numbered-val = LL.val N.the-type N′.the-laws
 
--- the numbers of what the bench answers
+-- the numbers of what the held row answers
 abbrev numbered : RoundAnswer → plain.RoundAnswer
 numbered r = roundAs (said r)
 
@@ -138,5 +138,5 @@ j1850-round-spec 𝓤 H 𝓜 𝓖 𝓡 =
     entered 𝓤 H (tripleOf 𝓤 H (𝓖 .A) f.signature (f.spec 𝓤 H (𝓖 .A) (𝓜 .mem) (𝓡 .run)))
     (tables 𝓤 H 𝓜 𝓡 code.env .C) (tables 𝓤 H 𝓜 𝓡 code.env .Λ) #self code.function (code.unfolded 𝓤 H 𝓜 𝓡)
     (meets 𝓤 H (𝓖 .A) (givenOf 𝓤 H 𝓜 𝓖) (𝓜 .mem) (𝓡 .run) (tablesOf 𝓤 H 𝓜 (tables 𝓤 H 𝓜 𝓡 code.env))
-    (cited 𝓤 H (tripleOf 𝓤 H (𝓖 .A) inner.signature (inner.spec 𝓤 H (𝓖 .A) (𝓜 .mem) (𝓡 .run))) 𝓜 𝓡 code.env #inner inner-def.routine code.calls-bench-lent·round (inner-thm.met 𝓤 H 𝓜 𝓖 𝓡))
-    (cited 𝓤 H (RoundAs 𝓤 H (𝓖 .A) (𝓜 .mem) (𝓡 .run)) 𝓜 𝓡 code.env #as as-def.routine code.calls-c-bench-answers·round-as (as-thm.met 𝓤 H 𝓜 𝓖 𝓡)))
+    (cited 𝓤 H (tripleOf 𝓤 H (𝓖 .A) inner.signature (inner.spec 𝓤 H (𝓖 .A) (𝓜 .mem) (𝓡 .run))) 𝓜 𝓡 code.env #inner inner-def.routine code.calls-held-lent·round (inner-thm.met 𝓤 H 𝓜 𝓖 𝓡))
+    (cited 𝓤 H (RoundAs 𝓤 H (𝓖 .A) (𝓜 .mem) (𝓡 .run)) 𝓜 𝓡 code.env #as as-def.routine code.calls-c-held-answers·round-as (as-thm.met 𝓤 H 𝓜 𝓖 𝓡)))

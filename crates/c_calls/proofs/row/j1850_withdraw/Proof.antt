@@ -1,4 +1,4 @@
--- `c_calls::j1850_withdraw` gives what the bench promises: a walk of its code, by hand. All that is lent is handed on.
+-- `c_calls::j1850_withdraw` gives what the held row promises: a walk of its code, by hand. All that is lent is handed on.
 use mathlib.Core.Path.{refl, ap}
 use mathlib.Core.Option.{some as full}
 use Prim.Native.Nat.{ℕ, _<_, _^_}
@@ -31,7 +31,7 @@ use denote.Triple.Table.{entered, cited}
 use denote.Triple.Clauses.{Lasts}
 use Rattle.bench.specs.declared.Station.{Station}
 use Rattle.bench.specs.declared.Called.{Called}
-use Rattle.bench.specs.Promises.{WithdrawPromise}
+use Rattle.bench.specs.Promise.{WithdrawPromise}
 use Rattle.bench.proofs.Station as T
 use Rattle.bench.proofs.Called as C
 use Rattle.bench.proofs.Called.Laws as C′
@@ -100,5 +100,5 @@ j1850-withdraw-spec 𝓤 H 𝓜 𝓖 𝓡 =
     entered 𝓤 H (tripleOf 𝓤 H (𝓖 .A) f.signature (f.spec 𝓤 H (𝓖 .A) (𝓜 .mem) (𝓡 .run)))
     (tables 𝓤 H 𝓜 𝓡 code.env .C) (tables 𝓤 H 𝓜 𝓡 code.env .Λ) #self code.function (code.unfolded 𝓤 H 𝓜 𝓡)
     (meets 𝓤 H (𝓖 .A) (givenOf 𝓤 H 𝓜 𝓖) (𝓜 .mem) (𝓡 .run) (tablesOf 𝓤 H 𝓜 (tables 𝓤 H 𝓜 𝓡 code.env))
-    (cited 𝓤 H (tripleOf 𝓤 H (𝓖 .A) inner.signature (inner.spec 𝓤 H (𝓖 .A) (𝓜 .mem) (𝓡 .run))) 𝓜 𝓡 code.env #inner inner-def.routine code.calls-bench-lent·withdraw (inner-thm.met 𝓤 H 𝓜 𝓖 𝓡))
-    (cited 𝓤 H (CalledAs 𝓤 H (𝓖 .A) (𝓜 .mem) (𝓡 .run)) 𝓜 𝓡 code.env #as as-def.routine code.calls-c-bench-answers·called-as (as-thm.met 𝓤 H 𝓜 𝓖 𝓡)))
+    (cited 𝓤 H (tripleOf 𝓤 H (𝓖 .A) inner.signature (inner.spec 𝓤 H (𝓖 .A) (𝓜 .mem) (𝓡 .run))) 𝓜 𝓡 code.env #inner inner-def.routine code.calls-held-lent·withdraw (inner-thm.met 𝓤 H 𝓜 𝓖 𝓡))
+    (cited 𝓤 H (CalledAs 𝓤 H (𝓖 .A) (𝓜 .mem) (𝓡 .run)) 𝓜 𝓡 code.env #as as-def.routine code.calls-c-held-answers·called-as (as-thm.met 𝓤 H 𝓜 𝓖 𝓡)))

@@ -6,8 +6,8 @@ use mathlib.Core.List.{List}
 use Prim.Native.Nat.{ℕ}
 use lib.Dec.{eqb}
 use lib.Ieee.{Float}
-use Rattle.laws.specs.Settled as units
-use Rattle.volts.specs.Tracing.{TraceOutcome, wrote, turnedAway, numbered, Promise}
+use Rattle.laws.specs.Settled.{settled}
+use Rattle.volts.specs.Promise.{TraceOutcome, wrote, turnedAway, numbered, TracePromise}
 use Rattle.volts.specs.declared.Gate.{Gate}
 use Rattle.volts.specs.declared.Traced.{Traced}
 use Rattle.volts.specs.declared.Traced.the-variants.{Intervals, TooManySamples, BadGate, TooFewWords, UnusableSample}
@@ -29,5 +29,5 @@ pub same-number : (a b : Traced) → numbered a ≡ numbered b → a ≡ b
 same-number a b e = sym (case-back a) ∙ ap caseOf e ∙ case-back b
 
 -- two answers that meet the promise of one call are equal, and so are the words that they leave
-pub settled : {g : Gate} {s : List Float} {lent : List ℕ} {a b : Traced} {u v : List ℕ} → Promise g s lent a u → Promise g s lent b v → (a ≡ b) × (u ≡ v)
-settled {a = a} {b = b} p q = (same-number a b (units.settled (p .answers) (q .answers)), units.settled (p .leaves) (q .leaves))
+pub trace-settled : {g : Gate} {s : List Float} {lent : List ℕ} {a b : Traced} {u v : List ℕ} → TracePromise g s lent a u → TracePromise g s lent b v → (a ≡ b) × (u ≡ v)
+trace-settled {a = a} {b = b} p q = (same-number a b (settled (p .answers) (q .answers)), settled (p .leaves) (q .leaves))

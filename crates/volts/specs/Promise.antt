@@ -75,6 +75,6 @@ wordsAfter (turnedAway k) intervals lent = lent
 
 -- The promise of the open call: of its gate, its samples and the words lent to it, the answer that it gives and the words as
 -- it leaves them.
-pub record Promise (g : Gate) (s : List Float) (lent : List ℕ) (answer : Traced) (left : List ℕ) : Type 0 where
+pub record TracePromise (g : Gate) (s : List Float) (lent : List ℕ) (answer : Traced) (left : List ℕ) : Type 0 where
   pub answers : numbered answer ≡ outcome g s lent
   pub leaves : left ≡ wordsAfter (outcome g s lent) (intervalsOf g s) lent

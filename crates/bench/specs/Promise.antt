@@ -14,7 +14,7 @@ use Rattle.bench.specs.declared.Called.{Called}
 use Rattle.bench.specs.declared.RoundTold.{RoundTold}
 use Rattle.bench.specs.declared.RoundAnswer.{RoundAnswer}
 use Rattle.bench.specs.Stations.{mostStations}
-use Rattle.bench.specs.Contest.{Round, roundOf, verdictOf, verdictsOf}
+use Rattle.bench.specs.Round.{Round, roundOf, verdictOf, verdictsOf}
 use Rattle.bench.specs.Calls.{load, withdraw, setClock, round, numberOf, taken, after, lentAfter}
 
 -- ## Loading, withdrawing and setting a clock
