@@ -42,7 +42,7 @@ rust_for_x86() {
 }
 
 if [ "$machine" = x86_64 ]; then
-    if command -v cc >/dev/null 2>&1; then CC=cc; else LACKS_C="a C compiler"; fi
+    if command -v cc >/dev/null 2>&1; then CC=cc; else LACKS_C="a C compiler" LACKS_RUST="a C compiler, which links"; fi
     if rustc --version >/dev/null 2>&1; then RUSTC=rustc; else LACKS_RUST="a rustc that runs here"; fi
 else
     EMULATED=yes
