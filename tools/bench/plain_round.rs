@@ -80,8 +80,9 @@ fn contend(lanes: &mut [Lane], words: &mut [u32]) -> usize {
         let remaining = lanes.iter().filter(|lane| lane.remains());
         let asked = remaining.filter_map(|lane| lane.asks(active, j));
         let width = if active { asked.max() } else { asked.min() };
-        let Some(width) = width else {
-            return j;
+        let width = match width {
+            Some(width) => width,
+            None => return j,
         };
         words[j] = width;
         let one = (width <= 96) == active;

@@ -110,7 +110,7 @@ pub fn push_frame(random: &mut Random, line: &mut Vec<u32>) {
     if line.len() % 2 == 0 {
         let opening = an_end(random);
         line.push(opening);
-    } else if !line.last().is_some_and(|w| *w >= 240) {
+    } else if line.last().map_or(true, |w| *w < 240) {
         let active = sof_or_eod(random);
         let opening = an_end(random);
         line.extend([active, opening]);

@@ -79,7 +79,7 @@ fn main() {
     let (seed, times, which) = match words[..] {
         ["variants"] => return print_names(|_| true),
         ["watched"] => return print_names(|wrong| wrong::WATCHED.contains(&wrong)),
-        ["empty"] => return finish(&Trial::new(0, Wrong::Nothing)),
+        ["empty"] => return finish(&Trial::new(0, Wrong::Nothing), 0),
         [seed, "alone", name] => return alone(seed, name),
         [seed, times] => (
             seed.parse(),
@@ -89,19 +89,21 @@ fn main() {
         [seed, times, name] => (seed.parse(), times.parse(), wrong::named(name)),
         _ => usage(),
     };
-    let (Ok(seed), Ok(times), Some((wrong, part))) = (seed, times, which) else {
-        usage()
+    let (seed, times, wrong, part) = match (seed, times, which) {
+        (Ok(seed), Ok(times), Some((wrong, part))) => (seed, times, wrong, part),
+        _ => usage(),
     };
     let mut trial = Trial::new(seed, wrong);
     println!("compare: seed {seed}");
     run(&mut trial, part, times);
-    finish(&trial);
+    finish(&trial, times);
 }
 
 /// Histories of a variant by itself.
 fn alone(seed: &str, name: &str) {
-    let (Ok(seed), Some((wrong, _))) = (seed.parse(), wrong::named(name)) else {
-        usage()
+    let (seed, wrong) = match (seed.parse(), wrong::named(name)) {
+        (Ok(seed), Some((wrong, _))) => (seed, wrong),
+        _ => usage(),
     };
     let mut trial = Trial::new(seed, wrong);
     trial.alone = true;
@@ -145,11 +147,11 @@ fn run(trial: &mut Trial, part: Part, times: usize) {
 }
 
 /// Tells how often each answer occurred, and fails where one of the documents' is missing.
-fn finish(trial: &Trial) {
+fn finish(trial: &Trial, times: usize) {
     println!("compare: {} calls agree", trial.tally.total());
     print!("  how often each answer occurred:");
     trial.tally.print();
-    let missing = trial.tally.missing();
+    let missing = trial.tally.missing(times);
     missing.iter().for_each(|line| println!("compare: {line}"));
     if !missing.is_empty() {
         std::process::exit(3);

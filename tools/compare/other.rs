@@ -109,16 +109,18 @@ pub fn plain_write(
     words: &mut [u32],
 ) -> Counted {
     let clock = second_clock(clock);
-    let Some(kind) = kind_of(kind) else {
-        let good = symbol::good_clock(clock);
-        return counted(Err(if good { 37 } else { 36 }));
-    };
-    let message = writing::Message {
-        main,
-        kind,
-        response,
-    };
-    counted(writing::write(clock, message, words))
+    match kind_of(kind) {
+        None if symbol::good_clock(clock) => counted(Err(37)),
+        None => counted(Err(36)),
+        Some(kind) => {
+            let message = writing::Message {
+                main,
+                kind,
+                response,
+            };
+            counted(writing::write(clock, message, words))
+        }
+    }
 }
 
 pub fn read(wrong: Wrong, intervals: &[u32], from: usize, bytes: &mut [u8]) -> Read {

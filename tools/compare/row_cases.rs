@@ -113,8 +113,9 @@ fn limits(trial: &mut Trial) {
 /// The first of a call's rules that holds, in document 01's order, noting which later ones it stood in front of.
 fn first_of(trial: &mut Trial, call: &'static str, rules: &[(u32, bool)]) -> u32 {
     let mut holding = rules.iter().filter(|(_, holds)| *holds).map(|(n, _)| *n);
-    let Some(first) = holding.next() else {
-        return 0;
+    let first = match holding.next() {
+        Some(first) => first,
+        None => return 0,
     };
     for other in holding {
         trial.tally.compete(call, first, other);
@@ -160,7 +161,7 @@ fn refusals(trial: &mut Trial, stations: &[Station], unsound: bool) {
     let sound = (39, unsound);
     for place in [0, count.wrapping_sub(1), count, count + 1, usize::MAX] {
         let none = (40, place >= count);
-        let held = stations.get(place).is_some_and(|s| s.length > 0);
+        let held = stations.get(place).map_or(false, |s| s.length > 0);
         for length in [0, 1, 11, 12, 300] {
             let value = (37, length == 0 || length > 11);
             let wanted = first_of(trial, "load", &[size, sound, none, value, (41, held)]);

@@ -67,8 +67,11 @@ const COMPETING: [(&str, &[(u32, u32)]); 5] = [
     ),
 ];
 
-/// How often each of these has to occur before a run counts, and how often each pair of refusals.
-const LEAST: u64 = 100;
+/// How often each of these has to occur before a run counts: ten times for each turn of the random cases, once at least and
+/// a hundred times at most; and how often each pair of refusals.
+fn least(times: usize) -> u64 {
+    (10 * times as u64).clamp(1, 100)
+}
 const LEAST_PAIRS: u64 = 10;
 
 type Counts = BTreeMap<(&'static str, u32), u64>;
@@ -93,10 +96,10 @@ fn print(counts: &Counts) {
 }
 
 /// What occurred too seldom of what has to.
-fn seldom(counts: &Counts, expected: &[(&'static str, &[u32])]) -> Vec<String> {
+fn seldom(counts: &Counts, expected: &[(&'static str, &[u32])], least: u64) -> Vec<String> {
     let one = |name: &'static str, number: u32| {
         let times = counts.get(&(name, number)).copied().unwrap_or(0);
-        (times < LEAST).then(|| format!("{name} was {number} only {times} times"))
+        (times < least).then(|| format!("{name} was {number} only {times} times"))
     };
     let all = expected.iter();
     all.flat_map(|(name, numbers)| numbers.iter().filter_map(move |n| one(name, *n)))
@@ -133,10 +136,10 @@ impl Tally {
         );
     }
 
-    /// The answers of the documents that occurred too seldom.
-    pub fn missing(&self) -> Vec<String> {
-        let mut found = seldom(&self.answers, &ANSWERS);
-        found.extend(seldom(&self.carried, &CARRIED));
+    /// The answers of the documents that occurred too seldom for so many turns of the random cases.
+    pub fn missing(&self, times: usize) -> Vec<String> {
+        let mut found = seldom(&self.answers, &ANSWERS, least(times));
+        found.extend(seldom(&self.carried, &CARRIED, least(times)));
         for (call, pairs) in COMPETING {
             for (first, other) in pairs {
                 let times = self.competed.get(&(call, *first, *other));

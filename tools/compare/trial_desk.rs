@@ -34,11 +34,11 @@ impl Trial {
     fn note_lines(&mut self, report: &str) {
         for line in report.lines().skip(1) {
             let fields: Vec<&str> = line.split('\t').collect();
-            let Some(number) = fields.get(3).and_then(|kind| kind_number(kind)) else {
-                continue;
-            };
-            self.tally.note("desk line", number);
-            if number == 0 {
+            let number = fields.get(3).and_then(|kind| kind_number(kind));
+            if let Some(number) = number {
+                self.tally.note("desk line", number);
+            }
+            if number == Some(0) {
                 self.tally.note("desk response", response_number(fields[5]));
             }
         }

@@ -7,7 +7,6 @@ use crate::other_live;
 use crate::ours::{self, Asked, Heard, Live};
 use crate::trial::{differ, told, Trial, AROUND};
 use std::fmt::Debug;
-use std::hint::black_box;
 
 /// The words of the library's reader that cases set: the place of the next interval, where reading goes on, and whether the
 /// last place has been heard.
@@ -183,7 +182,7 @@ impl Trial {
         let mut wanted = (padded, before.clone());
         let number = match (live.inner[FULL], lent) {
             (1.., _) => Some(51),
-            (0, ..12) => Some(32),
+            (0, 0..=11) => Some(32),
             _ => {
                 let first = AROUND..AROUND + 12;
                 wanted.0.live = after.live;
@@ -229,9 +228,12 @@ impl Trial {
 }
 
 /// What the library answers about a reader that it is lent to read. The compiler takes memory lent for reading to stay as it
-/// is: through a black box it cannot know whose memory this is, so that a comparison afterwards looks at it again.
+/// is: through a pointer that is read as volatile it cannot know whose memory this is, so that a comparison afterwards looks
+/// at it again.
 fn asked_of(padded: &mut Padded) -> Asked {
-    ours::ask(&black_box(padded).live)
+    let pointer: *const Padded = padded;
+    let unknown = unsafe { &*std::ptr::read_volatile(&pointer) };
+    ours::ask(&unknown.live)
 }
 
 /// What the library answers on a whole recording, its places counted from one on, and with what it ends.

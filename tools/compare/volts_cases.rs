@@ -21,6 +21,25 @@ const NANS: [u32; 6] = [
     0x7fa5_a5a5,
 ];
 
+/// The least number above a number; the greatest infinity and a NaN stay. As `f32::next_up`, which older compilers lack.
+fn next_up(number: f32) -> f32 {
+    let bits = number.to_bits();
+    if number.is_nan() || number == f32::INFINITY {
+        number
+    } else if number == 0.0 {
+        f32::from_bits(1)
+    } else if number > 0.0 {
+        f32::from_bits(bits + 1)
+    } else {
+        f32::from_bits(bits - 1)
+    }
+}
+
+/// The greatest number below a number, the same way.
+fn next_down(number: f32) -> f32 {
+    -next_up(-number)
+}
+
 /// Both zeros, the edges of the subnormal and of the finite numbers, the usual levels and their neighbours, numbers whose
 /// differences are rounded, the infinities and the NaNs.
 fn numbers() -> Vec<f32> {
@@ -36,13 +55,13 @@ fn numbers() -> Vec<f32> {
         f32::MIN_POSITIVE,
         -f32::MIN_POSITIVE,
         0.1,
-        1.5f32.next_down(),
+        next_down(1.5),
         1.5,
-        1.5f32.next_up(),
+        next_up(1.5),
         -1.5,
-        6.25f32.next_down(),
+        next_down(6.25),
         6.25,
-        6.25f32.next_up(),
+        next_up(6.25),
         7.0,
         16_777_216.0,
         16_777_218.0,
@@ -194,13 +213,13 @@ fn rounded(trial: &mut Trial) {
     let scale = [1.0, -1.0, 0.5, 3.0, 1.0e-3, 1.0e6];
     let sample = near * trial.random.pick(&scale);
     let volts = sample - offset;
-    let (under, over) = (volts.next_down(), volts.next_up());
+    let (under, over) = (next_down(volts), next_up(volts));
     let levels = [
         (volts, under),
         (over, volts),
         (over, under),
-        (under, under.next_down()),
-        (over.next_up(), over),
+        (under, next_down(under)),
+        (next_up(over), over),
     ];
     for (active, passive) in levels {
         let gate = Gate {
@@ -208,7 +227,7 @@ fn rounded(trial: &mut Trial) {
             active,
             passive,
         };
-        let samples = [sample, sample.next_down(), sample, sample.next_up(), sample];
+        let samples = [sample, next_down(sample), sample, next_up(sample), sample];
         trial.intervals(gate, &samples, 6);
     }
 }

@@ -31,7 +31,7 @@ fn first_difference(x: &[bool], y: &[bool]) -> Option<usize> {
 /// X is ahead of Y: where their bits first differ X has 0 and Y has 1, or X still has a bit and Y has none.
 fn ahead(x: &[u8], y: &[u8]) -> bool {
     let (x, y) = (bits_of(x), bits_of(y));
-    first_difference(&x, &y).is_some_and(|i| match (x.get(i), y.get(i)) {
+    first_difference(&x, &y).map_or(false, |i| match (x.get(i), y.get(i)) {
         (Some(mine), Some(theirs)) => !mine && *theirs,
         (mine, _) => mine.is_some(),
     })
@@ -98,24 +98,23 @@ impl Watch {
             std::process::exit(1);
         }
         for (place, verdict) in self.0.iter_mut().zip(answer.verdicts) {
-            let Some(waiting) = place.take_if(|_| verdict.fared == 1) else {
-                continue;
-            };
-            let kind = match (waiting.disturbed, waiting.ahead) {
-                (false, 0) => 0,
-                (false, _) => 1,
-                (true, _) => 2,
-            };
-            tally.note("went out", kind);
+            let out = if verdict.fared == 1 { place.take() } else { None };
+            if let Some(waiting) = out {
+                let kind = match (waiting.disturbed, waiting.ahead) {
+                    (false, 0) => 0,
+                    (false, _) => 1,
+                    (true, _) => 2,
+                };
+                tally.note("went out", kind);
+            }
         }
     }
 
     fn judge(&mut self, answer: &Round, words: &[u32]) -> Result<(), String> {
         let through = (0..self.0.len()).find(|i| answer.verdicts[*i].fared == 1);
         let winner = through.and_then(|i| self.0[i].as_ref());
-        let Some(winner) = winner.map(|waiting| waiting.bytes.clone()) else {
-            return Err("nothing that waits gets through".into());
-        };
+        let winner = winner.map(|waiting| waiting.bytes.clone());
+        let winner = winner.ok_or("nothing that waits gets through")?;
         on_the_line(&winner, answer, words)?;
         for (place, verdict) in answer.verdicts.iter().enumerate() {
             let due = match self.0.get(place) {
@@ -132,9 +131,10 @@ impl Watch {
             }
         }
         for (place, waiting) in self.0.iter_mut().enumerate() {
-            let Some(waiting) = waiting else { continue };
-            waiting.rounds += 1;
-            waiting.in_time(answer.verdicts[place].fared == 1, place)?;
+            if let Some(waiting) = waiting {
+                waiting.rounds += 1;
+                waiting.in_time(answer.verdicts[place].fared == 1, place)?;
+            }
         }
         Ok(())
     }

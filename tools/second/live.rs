@@ -93,8 +93,9 @@ impl Live {
                 return Ok(None);
             }
         };
-        let Some(answer) = decided(&self.kept, opening, newest, lent) else {
-            return Ok(None);
+        let answer = match decided(&self.kept, opening, newest, lent) {
+            Some(answer) => answer,
+            None => return Ok(None),
         };
         let frame = answer.frame.map(|frame| Frame {
             opening: self.first + frame.opening as u64,

@@ -42,7 +42,8 @@ fn desks() -> std::io::Result<()> {
     let mut texts = Vec::new();
     let mut line = String::new();
     while input.read_line(&mut line)? > 0 {
-        let length: usize = line.trim_end().parse().map_err(std::io::Error::other)?;
+        let bad = |error| std::io::Error::new(std::io::ErrorKind::InvalidData, error);
+        let length: usize = line.trim_end().parse().map_err(bad)?;
         let mut bytes = vec![0; length];
         input.read_exact(&mut bytes)?;
         let text = text::desk(&bytes);
