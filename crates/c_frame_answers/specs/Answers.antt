@@ -63,5 +63,5 @@ readAs t =
     }
 
 -- what the desk tells: its number, the first bad line, and how many bytes of text were laid
-abbrev pub deskAs : desk.Told → Desk
+abbrev pub deskAs : desk.DeskTale → Desk
 deskAs t = record { number = t .number; line = t .line; length = t .length }

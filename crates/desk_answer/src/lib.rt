@@ -81,7 +81,7 @@ pub fn low(b: u8) -> u8
 
 // Whether so many words and bytes are too few for some input.
 pub fn too_little(words: usize, bytes: usize) -> bool
-    ensures { λ r. ⌜ r ≡ lentShort words bytes ⌝ }
+    ensures { λ r. ⌜ r ≡ lentShort words bytes .says ⌝ }
 {
     if words < MOST_WIDTHS {
         return true;
