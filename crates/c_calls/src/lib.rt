@@ -13,7 +13,7 @@ ghost use Rattle.volts.specs.Intervals.{intervalsOf};
 ghost use Rattle.frame.specs.Reading.{reading};
 ghost use Rattle.frame.specs.Answers.{tells, lentAfter};
 ghost use Rattle.frame.specs.Writing.{counts, wordsAfter};
-ghost use Rattle.desk_text.specs.Calls.{answering, laidWords, laidText, laidOn};
+ghost use Rattle.desk_text.specs.Promise.{answering, laidWords, laidText, laidOn};
 ghost use Rattle.c_frame_answers.specs.Answers.{checkAs, classAs, timedAs, tracedAs, sheetOf, countedAs, readAs, deskAs};
 use c_frame_answers::Check;
 use c_frame_answers::Class;

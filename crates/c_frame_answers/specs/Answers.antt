@@ -12,7 +12,7 @@ use Rattle.symbol.specs.Clocks.{goodOf}
 use Rattle.frame.specs.Writing as writing
 use Rattle.frame.specs.Answers.{Told}
 use Rattle.frame_numbers.specs.Numbers.{symbolNumber, kindNumber, kindOf}
-use Rattle.desk_text.specs.Calls as desk
+use Rattle.desk_text.specs.Promise as desk
 use Rattle.c_frame_answers.specs.declared.Check.{Check}
 use Rattle.c_frame_answers.specs.declared.Class.{Class}
 use Rattle.c_frame_answers.specs.declared.Timed.{Timed}

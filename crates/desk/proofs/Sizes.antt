@@ -14,7 +14,7 @@ use Rattle.desk.specs.Filling.{Within}
 use Rattle.desk_text.specs.declared.Answered.{Answered}
 use Rattle.desk_text.specs.declared.Answered.the-variants.{Report, Refused}
 use Rattle.desk_text.specs.Report.{deskOf}
-use Rattle.desk_text.specs.Calls.{mostText, deskRules, DeskTale, answering, answeredTold, DeskPromise}
+use Rattle.desk_text.specs.Promise.{mostText, deskRules, DeskTale, answering, answeredTold, DeskPromise}
 use Rattle.desk_text.specs.Whole.{desk-size}
 
 page-size : (s : List ℕ) (words bytes : ℕ) → answering s words bytes .length ≤ mostText

@@ -7,7 +7,7 @@ ghost use Prim.Native.Nat.{_+_};
 ghost use lib.ListN.{length};
 ghost use Rattle.desk_text.specs.Enough.{mostInput};
 ghost use Rattle.desk_text.specs.Input.{mostWidths};
-ghost use Rattle.desk_text.specs.Calls.{mostText};
+ghost use Rattle.desk_text.specs.Promise.{mostText};
 ghost use Rattle.desk.specs.Filling.{Within};
 use desk_text::Answered;
 use desk_text::MOST_TEXT;

@@ -2,7 +2,7 @@
 // hex digits of its bytes. And whether what a caller lends is too little.
 ghost use mathlib.Core.Path.{_≡_};
 ghost use Prim.Native.Nat.{_/_, _%_, _<_};
-ghost use Rattle.desk_text.specs.Calls.{lentShort};
+ghost use Rattle.desk_text.specs.Promise.{lentShort};
 ghost use Rattle.desk_text.specs.Numerals.{hexDigit};
 ghost use Rattle.desk_answer.specs.Shown.{afterOf, isWithout, markOf};
 use desk_text::MOST_TEXT;

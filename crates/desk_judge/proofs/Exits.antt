@@ -18,7 +18,7 @@ use Rattle.desk_text.specs.declared.JudgedInput.the-variants.{Good, Bad, FewLen
 use Rattle.desk_text.specs.Grammar.{newline}
 use Rattle.desk_text.specs.Input.{Line, shut, unshut, lines, field, ownLine, mostWidths, badFrom, widthsFrom, firstBad, recordingOf}
 use Rattle.desk_text.specs.PieceLaws.{lines-first, lines-none}
-use Rattle.desk_text.specs.Calls.{JudgedTale, ifGood, judgingBy, judging, judgedTold, laidOn, JudgePromise}
+use Rattle.desk_text.specs.Promise.{JudgedTale, ifGood, judgingBy, judging, judgedTold, laidOn, JudgePromise}
 use Rattle.desk_judge.specs.declared.Own.{Own}
 use Rattle.desk_judge.specs.declared.Own.the-variants.{Of as Two, Not as None}
 use Rattle.desk_judge.specs.declared.Taken.{Taken}

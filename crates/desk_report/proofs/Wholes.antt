@@ -19,7 +19,7 @@ use Rattle.desk_text.specs.declared.Answered.{Answered}
 use Rattle.desk_text.specs.declared.Answered.the-variants.{Report, Refused, FewLent}
 use Rattle.desk_text.specs.Input.{Line, lines, firstBad, customerOf, vehicleOf, recordingOf, mostWidths}
 use Rattle.desk_text.specs.Report.{header, refusal, rowsOf, report, deskOf}
-use Rattle.desk_text.specs.Calls.{JudgedTale, judgingBy, judging, judgedTold, laidOn, laidWords, laidText, JudgePromise, mostText, lentShort, answeringBy, answering, answeredTold, DeskPromise}
+use Rattle.desk_text.specs.Promise.{JudgedTale, judgingBy, judging, judgedTold, laidOn, laidWords, laidText, JudgePromise, mostText, lentShort, answeringBy, answering, answeredTold, DeskPromise}
 use Rattle.desk_text.specs.LabelPlaces.{Stand, labels-stand}
 use Rattle.desk_text.specs.Whole.{desk-good, desk-bad, desk-size}
 use Rattle.desk_report.specs.Laying.{Laid, Room}

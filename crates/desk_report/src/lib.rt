@@ -9,7 +9,7 @@ ghost use Rattle.desk_text.specs.Report.{refusal};
 ghost use Rattle.desk_text.specs.Report.{report as reportOf};
 ghost use Rattle.desk_report.specs.Laying.{Laid, Room};
 ghost use Rattle.desk_report.specs.Reporting.{customerIn, vehicleIn, Within};
-ghost use Rattle.desk_text.specs.Calls.{DeskPromise};
+ghost use Rattle.desk_text.specs.Promise.{DeskPromise};
 use desk_text::Answered;
 use desk_text::JudgedInput;
 use desk_text::Labels;

@@ -22,7 +22,7 @@ use Rattle.label.specs.Labels.{mostLabel}
 use Rattle.desk_text.specs.Input.{lines, mostWidths}
 use Rattle.desk_text.specs.Numerals.{decimal}
 use Rattle.desk_text.specs.Report.{lineOf, header, atOf, kindOf, mainOf, marked, responseOf, rowOf, rowsOf, answers, report}
-use Rattle.desk_text.specs.Calls.{mostText}
+use Rattle.desk_text.specs.Promise.{mostText}
 use Rattle.desk_text.specs.NumeralLaws.{five-digits, two-digits, hex-length}
 use Rattle.desk_text.specs.AnswerLaws.{answer-is}
 use Rattle.desk_text.specs.Stated.{Answer, isSilence, isOpen, isFrame, isFault}

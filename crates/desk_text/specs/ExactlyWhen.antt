@@ -1,66 +1,22 @@
 -- Laws.
--- The desk's calls are settled: each promise leaves one answer and one state of everything lent, and each refusal comes exactly
--- when its rule is the first to hold.
+-- When the desk's calls answer which number: each of 61 and 62 exactly when its rule is the first to hold, and 0 exactly when
+-- none does.
 use Prim.Native.Nat.{ℕ, _<_}
 use mathlib.Core.Path.{_≡_, refl, sym, ap, _∙_}
-use mathlib.Core.Bool.{cond}
 use mathlib.Core.List.{List}
 use mathlib.Core.Logic.{_↔_}
 use native.Mathlib.Omega.{arith}
-use lib.Dec.{eqb}
 use lib.ListN.{length}
 use borrow.Author.Tests.{ne-eqb}
-use Rattle.laws.specs.Settled.{settled}
 use Rattle.laws.specs.Rules.{firstRule, FirstToHold, NoneHolds, TurnedAway}
 use Rattle.laws.specs.RuleLaws.{first-is, none-is, refuses}
 use Rattle.desk_text.specs.declared.JudgedInput.{JudgedInput}
-use Rattle.desk_text.specs.declared.JudgedInput.the-variants.{Good, Bad, FewLentWords}
 use Rattle.desk_text.specs.declared.Answered.{Answered}
-use Rattle.desk_text.specs.declared.Answered.the-variants.{Report, Refused, FewLent}
 use Rattle.desk_text.specs.Input.{lines, firstBad}
 use Rattle.desk_text.specs.Report.{deskOf}
-use Rattle.desk_text.specs.Calls.{lentShort, judgeRules, deskRules, judging, JudgedTale, judgedTold, laidOn, JudgePromise, answering, DeskTale, answeredTold, DeskPromise}
+use Rattle.desk_text.specs.Promise.{lentShort, judgeRules, deskRules, judging, JudgedTale, judgedTold, laidOn, JudgePromise, answering, DeskTale, answeredTold, DeskPromise}
 
--- ## One answer
-
--- the answer back from what is told of it
-abbrev judgedOf : JudgedTale → JudgedInput
-judgedOf t =
-    cond (eqb (t .number) 0) (Good (record { customer = t .customer; vehicle = t .vehicle }) (t .widths))
-    (cond (eqb (t .number) 62) (Bad (t .line)) FewLentWords)
-
-judged-back : (r : JudgedInput) → judgedOf (judgedTold r) ≡ r
-judged-back (Good labels widths) = refl
-judged-back (Bad line) = refl
-judged-back FewLentWords = refl
-
--- .. and the desk's answer
-abbrev answeredOf : DeskTale → Answered
-answeredOf t = cond (eqb (t .number) 0) (Report (t .length)) (cond (eqb (t .number) 62) (Refused (t .line) (t .length)) FewLent)
-
-answered-back : (r : Answered) → answeredOf (answeredTold r) ≡ r
-answered-back (Report length) = refl
-answered-back (Refused line length) = refl
-answered-back FewLent = refl
-
--- Two answers with the same number and values are the same answer.
-pub judged-once : (r s : JudgedInput) → judgedTold r ≡ judgedTold s → r ≡ s
-judged-once r s e = sym (judged-back r) ∙ ap judgedOf e ∙ judged-back s
-
--- the same for the desk's answers
-pub answered-once : (r s : Answered) → answeredTold r ≡ answeredTold s → r ≡ s
-answered-once r s e = sym (answered-back r) ∙ ap answeredOf e ∙ answered-back s
-
--- No second answer, and no other state of the lent words, meets the promise of judging.
-pub judge-settled : {s entry exit exit' : List ℕ} {q r : JudgedInput} → JudgePromise s entry exit q → JudgePromise s entry exit' r → (q ≡ r) × (exit ≡ exit')
-judge-settled {q} {r} a b = (judged-once q r (settled (a .tells-it) (b .tells-it)), settled (a .lends-it) (b .lends-it))
-
--- No second answer, and no other state of the lent words and bytes, meets the promise of the desk.
-pub desk-settled : {s words left left' entry exit exit' : List ℕ} {q r : Answered}
-    → DeskPromise s words left entry exit q → DeskPromise s words left' entry exit' r → (q ≡ r) × (left ≡ left') × (exit ≡ exit')
-desk-settled {q} {r} a b = (answered-once q r (settled (a .tells-it) (b .tells-it)), settled (a .words-it) (b .words-it), settled (a .lends-it) (b .lends-it))
-
--- ## Judging, exactly when
+-- ## Judging
 
 module _ {s entry exit : List ℕ} {r : JudgedInput} (q : JudgePromise s entry exit r) where
   its-number : judgedTold r .number ≡ judging s (length entry) .number
@@ -92,7 +48,7 @@ module _ {s entry exit : List ℕ} {r : JudgedInput} (q : JudgePromise s entry e
       let law = none-is (judgeRules s (length entry)) refl in
       (λ e. law .0 (sym by-rules ∙ e), λ h. by-rules ∙ law .1 h)
 
--- ## The desk's call, exactly when
+-- ## The desk's call
 
 module _ {s words left entry exit : List ℕ} {r : Answered} (q : DeskPromise s words left entry exit r) where
   desk-number : answeredTold r .number ≡ answering s (length words) (length entry) .number
