@@ -18,41 +18,41 @@ use Rattle.desk_text.specs.declared.JudgedInput.the-variants.{Good, Bad, FewLen
 use Rattle.desk_text.specs.declared.Answered.{Answered}
 use Rattle.desk_text.specs.declared.Answered.the-variants.{Report, Refused, FewLent}
 use Rattle.desk_text.specs.Input.{Line, lines, firstBad, customerOf, vehicleOf, recordingOf, mostWidths}
-use Rattle.desk_text.specs.Report.{header, refusal, rowsOf, report, deskOf}
+use Rattle.desk_text.specs.Report.{header, refusal, answersText, report, deskOf}
 use Rattle.desk_text.specs.Promise.{JudgedTale, judgingBy, judging, judgedTold, laidOn, laidWords, laidText, JudgePromise, mostText, lentShort, answeringBy, answering, answeredTold, DeskPromise}
 use Rattle.desk_text.specs.LabelPlaces.{Stand, labels-stand}
 use Rattle.desk_text.specs.Whole.{desk-good, desk-bad, desk-size}
-use Rattle.desk_report.specs.Laying.{Laid, Room}
-use Rattle.desk_report.specs.Reporting.{rowsFrom, customerIn, vehicleIn, Within}
-use Rattle.desk_report.proofs.Laying.{then, room-first, room-next}
+use Rattle.desk_report.specs.Laying.{Laid, Space}
+use Rattle.desk_report.specs.Reporting.{textFrom, customerIn, vehicleIn, Within}
+use Rattle.desk_report.proofs.Laying.{then, space-first, space-next}
 
 -- ## A report
 
-all-rows : (customer vehicle ws : List ℕ) → report customer vehicle ws ≡ header ++ rowsFrom customer vehicle ws 0
-unfolding report rowsFrom
-all-rows customer vehicle ws =
+report-text : (customer vehicle ws : List ℕ) → report customer vehicle ws ≡ header ++ textFrom customer vehicle ws 0
+unfolding report textFrom
+report-text customer vehicle ws =
     let n : length ws + 1 ≡ length ws + 1 - 0 = omega arith in
-    ap (λ (k : ℕ). header ++ rowsOf customer vehicle (answersIn k ws mostBytes 0)) n
+    ap (λ (k : ℕ). header ++ answersText customer vehicle (answersIn k ws mostBytes 0)) n
 
 -- a part of n from a on, as `&s[a..a + n]` gives it
 part : (a n : ℕ) (s : List ℕ) → take (a + n - a) (drop a s) ≡ take n (drop a s)
 part a n s = let e : a + n - a ≡ n = omega arith in rw e
 
-module _ {o : List ℕ} (s : List ℕ) (l : Labels) (ws : List ℕ) (h : Room 0 (report (customerIn s l) (vehicleIn s l) ws) o) where
-  abbrev rows : List ℕ
-  rows = rowsFrom (take (4 + l .customer - 4) (drop 4 s)) (take (4 + l .customer + 1 + l .vehicle - (4 + l .customer + 1)) (drop (4 + l .customer + 1) s)) ws 0
+module _ {o : List ℕ} (s : List ℕ) (l : Labels) (ws : List ℕ) (h : Space 0 (report (customerIn s l) (vehicleIn s l) ws) o) where
+  abbrev answersPart : List ℕ
+  answersPart = textFrom (take (4 + l .customer - 4) (drop 4 s)) (take (4 + l .customer + 1 + l .vehicle - (4 + l .customer + 1)) (drop (4 + l .customer + 1) s)) ws 0
 
-  whole : report (customerIn s l) (vehicleIn s l) ws ≡ header ++ rows
-  whole = all-rows (customerIn s l) (vehicleIn s l) ws ∙ rw (part 4 (l .customer) s, part (4 + l .customer + 1) (l .vehicle) s)
+  whole : report (customerIn s l) (vehicleIn s l) ws ≡ header ++ answersPart
+  whole = report-text (customerIn s l) (vehicleIn s l) ws ∙ rw (part 4 (l .customer) s, part (4 + l .customer + 1) (l .vehicle) s)
 
-  pub report-1 : Room 0 header o
-  report-1 = room-first header rows (rw whole at h)
+  pub report-1 : Space 0 header o
+  report-1 = space-first header answersPart (rw whole at h)
 
   module _ {k : ℕ} {p : List ℕ} (x : Laid 0 header o p k) where
-    pub report-2 : Room k rows p
-    report-2 = room-next header rows x (rw whole at h)
+    pub report-2 : Space k answersPart p
+    report-2 = space-next header answersPart x (rw whole at h)
 
-    pub report-laid : {j : ℕ} {q : List ℕ} → Laid k rows p q j → Laid 0 (report (customerIn s l) (vehicleIn s l) ws) o q j
+    pub report-laid : {j : ℕ} {q : List ℕ} → Laid k answersPart p q j → Laid 0 (report (customerIn s l) (vehicleIn s l) ws) o q j
     report-laid y = rw whole (then x y)
 
 -- ## What judging tells
@@ -155,8 +155,8 @@ module _ (s words : List ℕ) (enough : mostWidths ≤ length words) {left : Lis
     text : report (customerIn s l) (vehicleIn s l) (take n left) ≡ deskOf s
     text = rw (f .customer, f .vehicle, stand .customer-stands, stand .vehicle-stands, f .widths) (sym (desk-good s (f .none-bad)))
 
-    pub report-room : {lent : List ℕ} → mostText ≤ length lent → Room 0 (report (customerIn s l) (vehicleIn s l) (take n left)) lent
-    report-room h = record { fits = rw text (omega (arith, desk-size s)) }
+    pub report-space : {lent : List ℕ} → mostText ≤ length lent → Space 0 (report (customerIn s l) (vehicleIn s l) (take n left)) lent
+    report-space h = record { fits = rw text (omega (arith, desk-size s)) }
 
     pub desk-reports : {entry exit : List ℕ} {k : ℕ} → mostText ≤ length entry
         → Laid 0 (report (customerIn s l) (vehicleIn s l) (take n left)) entry exit k → DeskPromise s words left entry exit (Report k)
@@ -171,8 +171,8 @@ module _ (s words : List ℕ) (enough : mostWidths ≤ length words) {left : Lis
     refused-text : refusal n ≡ deskOf s
     refused-text = rw (flawed b .0) (sym (desk-bad s (flawed b .1)))
 
-    pub refusal-room : {lent : List ℕ} → mostText ≤ length lent → Room 0 (refusal n) lent
-    refusal-room h = record { fits = omega (arith, ap length refused-text, desk-size s) }
+    pub refusal-space : {lent : List ℕ} → mostText ≤ length lent → Space 0 (refusal n) lent
+    refusal-space h = record { fits = omega (arith, ap length refused-text, desk-size s) }
 
     pub desk-refuses : {entry exit : List ℕ} {k : ℕ} → mostText ≤ length entry → Laid 0 (refusal n) entry exit k → DeskPromise s words left entry exit (Refused n k)
     desk-refuses h x =

@@ -47,13 +47,13 @@ abbrev pub tellsOf : Outcome → List (List ℕ)
 tellsOf x = decimal (atOf x) ∷ kindOf x ∷ mainOf x ∷ responseOf x ∷ []
 
 -- the line of an answer, without its newline
-abbrev pub rowLine : List ℕ → List ℕ → Outcome → Line
-rowLine customer vehicle x = shut (joined tab (customer ∷ vehicle ∷ tellsOf x))
+abbrev pub answerLine : List ℕ → List ℕ → Outcome → Line
+answerLine customer vehicle x = shut (joined tab (customer ∷ vehicle ∷ tellsOf x))
 
 -- the lines of the answers
-abbrev pub rowLines : List ℕ → List ℕ → List Outcome → List Line
-rowLines customer vehicle [] = []
-rowLines customer vehicle (x ∷ xs) = rowLine customer vehicle x ∷ rowLines customer vehicle xs
+abbrev pub answerLines : List ℕ → List ℕ → List Outcome → List Line
+answerLines customer vehicle [] = []
+answerLines customer vehicle (x ∷ xs) = answerLine customer vehicle x ∷ answerLines customer vehicle xs
 
 -- the header, without its newline
 abbrev pub headerLine : Line
