@@ -13,7 +13,7 @@ ghost use Rattle.volts.specs.Intervals.{intervalsOf};
 ghost use Rattle.frame.specs.Reading.{reading};
 ghost use Rattle.frame.specs.ReadPromise.{tells, lentAfter};
 ghost use Rattle.frame.specs.WritePromise.{counts, wordsAfter};
-ghost use Rattle.desk_text.specs.Calls.{answering, pageTells, lentShort, laidWords, laidText, laidOn};
+ghost use Rattle.desk_text.specs.Promise.{answering, laidWords, laidText, laidOn};
 ghost use Rattle.c_frame_answers.specs.Answers.{checkAs, classAs, timedAs, tracedAs, sheetOf, countedAs, readAs, deskAs};
 use c_frame_answers::Check;
 use c_frame_answers::Class;
@@ -107,9 +107,9 @@ pub extern "C" fn j1850_read(intervals: &[u32], from: usize, bytes: &mut [u8]) -
 // The desk's whole text for an input, into lent bytes; the input's widths go into lent words.
 #[no_mangle]
 pub extern "C" fn j1850_desk(input: &[u8], words: &mut [u32], text: &mut [u8]) -> Desk
-    ensures { λ r. ⌜ r ≡ deskAs (pageTells (answering (now (input .entry)) (length (now (words .entry))) (length (now (text .entry))))) ⌝ }
-    ensures { λ _. ⌜ now (words .exit) ≡ laidOn (laidWords (lentShort (length (now (words .entry))) (length (now (text .entry)))) (now (input .entry))) (now (words .entry)) ⌝ }
-    ensures { λ _. ⌜ now (text .exit) ≡ laidOn (laidText (lentShort (length (now (words .entry))) (length (now (text .entry)))) (now (input .entry))) (now (text .entry)) ⌝ }
+    ensures { λ r. ⌜ r ≡ deskAs (answering (now (input .entry)) (length (now (words .entry))) (length (now (text .entry)))) ⌝ }
+    ensures { λ _. ⌜ now (words .exit) ≡ laidOn (laidWords (answering (now (input .entry)) (length (now (words .entry))) (length (now (text .entry))) .number) (now (input .entry))) (now (words .entry)) ⌝ }
+    ensures { λ _. ⌜ now (text .exit) ≡ laidOn (laidText (answering (now (input .entry)) (length (now (words .entry))) (length (now (text .entry))) .number) (now (input .entry))) (now (text .entry)) ⌝ }
 {
     c_frame_answers::desk_as(desk_report::desk(input, words, text))
 }

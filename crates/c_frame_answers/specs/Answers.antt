@@ -13,7 +13,7 @@ use Rattle.frame.specs.Writing as writing
 use Rattle.frame.specs.WritePromise.{Count}
 use Rattle.frame.specs.ReadPromise.{Told}
 use Rattle.frame_numbers.specs.Numbers.{symbolNumber, kindNumber, kindOf}
-use Rattle.desk_text.specs.Calls as desk
+use Rattle.desk_text.specs.Promise as desk
 use Rattle.c_frame_answers.specs.declared.Check.{Check}
 use Rattle.c_frame_answers.specs.declared.Class.{Class}
 use Rattle.c_frame_answers.specs.declared.Timed.{Timed}
@@ -64,5 +64,5 @@ readAs t =
     }
 
 -- what the desk tells: its number, the first bad line, and how many bytes of text were laid
-abbrev pub deskAs : desk.Told → Desk
+abbrev pub deskAs : desk.DeskTale → Desk
 deskAs t = record { number = t .number; line = t .line; length = t .length }

@@ -4,7 +4,7 @@ ghost use mathlib.Core.Path.{_≡_};
 ghost use Rattle.volts.specs.Promise.{numbered};
 ghost use Rattle.frame.specs.ReadPromise.{told, bare as bareTold};
 ghost use Rattle.frame.specs.WritePromise.{counted, counts};
-ghost use Rattle.desk_text.specs.Calls.{answeredTold};
+ghost use Rattle.desk_text.specs.Promise.{answeredTold};
 ghost use Rattle.c_frame_answers.specs.Answers.{tracedAs, noSuchKind, countedAs, readAs, deskAs};
 use desk_text::Answered;
 use frame::Reading;

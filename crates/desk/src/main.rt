@@ -7,7 +7,7 @@ ghost use Prim.Native.Nat.{_+_};
 ghost use lib.ListN.{length};
 ghost use Rattle.desk_text.specs.Enough.{mostInput};
 ghost use Rattle.desk_text.specs.Input.{mostWidths};
-ghost use Rattle.desk_text.specs.Calls.{mostText};
+ghost use Rattle.desk_text.specs.Promise.{mostText};
 ghost use Rattle.desk.specs.Filling.{Within};
 use desk_text::Answered;
 use desk_text::MOST_TEXT;
@@ -21,7 +21,7 @@ use libc::STDOUT_FILENO;
 const ENOUGH: usize = 229415;
 
 // Bytes for the input.
-fn room() -> [u8; ENOUGH]
+fn space() -> [u8; ENOUGH]
     ensures { λ r. ⌜ 1 + mostInput ≡ length r ⌝ }
 {
     [0u8; ENOUGH]
@@ -84,7 +84,7 @@ fn answer(input: &[u8]) {
 
 // Answers what a descriptor gives; a failure is told with the name.
 fn serve(fd: i32, name: &[u8]) {
-    let mut buf = room();
+    let mut buf = space();
     let filled = fill(fd, &mut buf);
     match filled {
         Filled::Bytes(n) => answer(&buf[..n]),

@@ -2,7 +2,7 @@
 // hex digits of its bytes. And whether what a caller lends is too little.
 ghost use mathlib.Core.Path.{_≡_};
 ghost use Prim.Native.Nat.{_/_, _%_, _<_};
-ghost use Rattle.desk_text.specs.Calls.{lentShort};
+ghost use Rattle.desk_text.specs.Promise.{lentShort};
 ghost use Rattle.desk_text.specs.Numerals.{hexDigit};
 ghost use Rattle.desk_answer.specs.Shown.{afterOf, isWithout, markOf};
 use desk_text::MOST_TEXT;
@@ -81,7 +81,7 @@ pub fn low(b: u8) -> u8
 
 // Whether so many words and bytes are too few for some input.
 pub fn too_little(words: usize, bytes: usize) -> bool
-    ensures { λ r. ⌜ r ≡ lentShort words bytes ⌝ }
+    ensures { λ r. ⌜ r ≡ lentShort words bytes .says ⌝ }
 {
     if words < MOST_WIDTHS {
         return true;

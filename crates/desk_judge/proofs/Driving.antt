@@ -22,7 +22,7 @@ use Rattle.desk_judge.proofs.Fields.{rest-all, found}
 -- k widths are laid, and the lines of t are left
 pub record Left (s t entry lent : List ℕ) (k : ℕ) : Type 0 where
   pub few : k ≤ mostWidths
-  pub room : mostWidths ≤ length entry
+  pub space : mostWidths ≤ length entry
   pub short : length t ≤ length s
   pub long : length lent ≡ length entry
   pub count : k + length (widthsFrom (2 + k) (lines t)) ≡ length (widthsFrom 2 (lines s))
@@ -31,7 +31,7 @@ pub record Left (s t entry lent : List ℕ) (k : ℕ) : Type 0 where
 
 pub left-start : (s entry : List ℕ) → mostWidths ≤ length entry → Left s s entry entry 0
 left-start s entry h =
-    record { few = omega arith; room = h; short = omega arith; long = refl; count = omega arith; stop = refl; laid = refl }
+    record { few = omega arith; space = h; short = omega arith; long = refl; count = omega arith; stop = refl; laid = refl }
 
 -- ## What a line comes to
 
@@ -129,7 +129,7 @@ module _ {s t entry lent : List ℕ} {k : ℕ} (left : Left s t entry lent k) wh
               let d : badFrom (2 + k) (lines t) ≡ badFrom (2 + k + 1) (lines u) = rw (p, q) in
               record {
                 few = omega arith;
-                room = left .room;
+                space = left .space;
                 short = omega (arith, left .short);
                 long = length-set lent k x ∙ left .long;
                 count = rw m (omega (arith, left .count, ap length w));

@@ -1,7 +1,7 @@
 -- How the first line and the lines after it decide the promise of judging: a law for each way out.
 use Prim.Native.Nat.{ℕ, _+_, _-_, _≤_, _<_}
 use mathlib.Core.Path.{_≡_, refl, sym, _∙_}
-use mathlib.Core.Bool.{Bool, true, false, cond}
+use mathlib.Core.Bool.{Bool, true, false, cond, not}
 use mathlib.Core.List.{List, [], _∷_}
 use mathlib.Core.Logic.{_⊎_, inl, inr}
 use native.Mathlib.Numerals.{add-one}
@@ -18,7 +18,7 @@ use Rattle.desk_text.specs.declared.JudgedInput.the-variants.{Good, Bad, FewLen
 use Rattle.desk_text.specs.Grammar.{newline}
 use Rattle.desk_text.specs.Input.{Line, shut, unshut, lines, field, ownLine, mostWidths, badFrom, widthsFrom, firstBad, recordingOf}
 use Rattle.desk_text.specs.PieceLaws.{lines-first, lines-none}
-use Rattle.desk_text.specs.Calls.{good, bad, few, judgementBy, judging, judgedTold, verdictTells, laidOn, JudgePromise}
+use Rattle.desk_text.specs.Promise.{JudgedTale, ifGood, judgingBy, judging, judgedTold, laidOn, JudgePromise}
 use Rattle.desk_judge.specs.declared.Own.{Own}
 use Rattle.desk_judge.specs.declared.Own.the-variants.{Of as Two, Not as None}
 use Rattle.desk_judge.specs.declared.Taken.{Taken}
@@ -60,9 +60,17 @@ pub refuses-61 : (s entry : List ℕ) → length entry < mostWidths → JudgePro
 unfolding judging
 refuses-61 s entry h = record { tells-it = rw (lt-ltb (length entry) mostWidths h); lends-it = rw (lt-ltb (length entry) mostWidths h) }
 
+-- the number of judging where enough is lent
+abbrev numberIf : (good : Bool) → ℕ
+numberIf good = cond (not good) 62 0
+
+-- .. by the lines
+abbrev numberBy : List Line → ℕ
+numberBy ls = numberIf (eqb (firstBad ls) 0)
+
 module _ (s entry : List ℕ) (h : mostWidths ≤ length entry) where
   -- what the lines come to settles the promise
-  promised : (ls : List Line) → lines s ≡ ls → (exit : List ℕ) (r : JudgedInput) → judgedTold r ≡ verdictTells (judgementBy ls) → exit ≡ laidOn (recordingOf ls) entry → JudgePromise s entry exit r
+  promised : (ls : List Line) → lines s ≡ ls → (exit : List ℕ) (r : JudgedInput) → judgedTold r ≡ judgingBy (numberBy ls) ls → exit ≡ laidOn (cond (eqb (numberBy ls) 61) [] (recordingOf ls)) entry → JudgePromise s entry exit r
   unfolding judging
   promised ls e exit r p q = record {
     tells-it = rw (le-ltb (length entry) mostWidths h, e) p;
@@ -71,7 +79,7 @@ module _ (s entry : List ℕ) (h : mostWidths ≤ length entry) where
 
   -- a first line that is bad
   refused-first : (ls : List Line) → lines s ≡ ls → firstBad ls ≡ 1 → recordingOf ls ≡ [] → JudgePromise s entry entry (Bad 1)
-  refused-first ls e p q = promised ls e entry (Bad 1) (rw p) (rw q)
+  refused-first ls e p q = promised ls e entry (Bad 1) (rw p) (rw (p, q))
 
   module _ (e : ℕ) (at : e ≡ 0 + indexOf 10 (slice 0 (length s) s)) where
     pub first-open : e ≡ length s → JudgePromise s entry entry (Bad 1)
@@ -104,13 +112,18 @@ module _ (s entry : List ℕ) (h : mostWidths ≤ length entry) where
           g : (ownLine (shut (take e s)) ≡ true) × (length (field 1 (shut (take e s))) ≡ labels .customer) × (length (field 2 (shut (take e s))) ≡ labels .vehicle)
           g = own-good (take e s) labels (sym a ∙ b)
 
-          by : (c : Bool) (u : List ℕ)
-              → judgedTold (judgedBy c labels (length (widthsFrom 2 (lines u))) (badFrom 2 (lines u)))
-              ≡ verdictTells (cond c (good (labels .customer) (labels .vehicle) (length (widthsFrom 2 (lines u)))) (bad (badFrom 2 (lines u))))
+          told : ℕ → List ℕ → JudgedTale
+          told n u = record { number = n; line = cond (eqb n 62) (badFrom 2 (lines u)) 0; customer = ifGood n (labels .customer); vehicle = ifGood n (labels .vehicle); widths = ifGood n (length (widthsFrom 2 (lines u))) }
+
+          by : (c : Bool) (u : List ℕ) → judgedTold (judgedBy c labels (length (widthsFrom 2 (lines u))) (badFrom 2 (lines u))) ≡ told (numberIf c) u
           by true u = refl
           by false u = refl
+
+          laid : (c : Bool) (ws : List ℕ) → ws ≡ cond (eqb (numberIf c) 61) [] ws
+          laid true ws = refl
+          laid false ws = refl
 
           go : (u : List ℕ) → lines s ≡ shut (take e s) ∷ lines u → AfterOwn labels u entry exit r → JudgePromise s entry exit r
           go u p d = promised (shut (take e s) ∷ lines u) p exit r
               (rw (d .answer, g .0, g .1, g .2) (by (eqb (badFrom 2 (lines u)) 0) u))
-              (d .laid ∙ sets-first entry (widthsFrom 2 (lines u)) (omega (arith, d .few)) ∙ rw (g .0))
+              (d .laid ∙ sets-first entry (widthsFrom 2 (lines u)) (omega (arith, d .few)) ∙ rw (g .0, ← laid (eqb (badFrom 2 (lines u)) 0) (widthsFrom 2 (lines u))))

@@ -4,7 +4,7 @@ ghost use mathlib.Core.Path.{_≡_};
 ghost use Prim.Native.Nat.{_≤_};
 ghost use lib.ListN.{length};
 ghost use Rattle.desk_text.specs.Input.{mostWidths};
-ghost use Rattle.desk_text.specs.Calls.{JudgePromise};
+ghost use Rattle.desk_text.specs.Promise.{JudgePromise};
 ghost use Rattle.desk_judge.specs.Found.{ivOf, labelsOf, ownOf, Taking, AfterOwn};
 use desk_field::Width;
 use desk_field::same;

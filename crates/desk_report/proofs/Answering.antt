@@ -14,12 +14,12 @@ use Rattle.frame.specs.ReadPromise.{faultNumber, bare, told, tells, lentAfter, 
 use Rattle.frame.specs.ReadSettled.{told-once}
 use Rattle.desk_text.specs.Grammar.{tab}
 use Rattle.desk_text.specs.Numerals.{decimal, hex}
-use Rattle.desk_text.specs.Report.{w-frame, w-quiet, w-unfinished, w-fault, w-none, lineOf, marked, rowOf}
+use Rattle.desk_text.specs.Report.{w-frame, w-quiet, w-unfinished, w-fault, w-none, lineOf, marked, answerText}
 use Rattle.desk_text.specs.AnswerLaws.{answer-is}
 use Rattle.desk_text.specs.Stated.{Answer, isSilence, isOpen, isFrame, isFault}
 use Rattle.desk_answer.specs.declared.Next.{Next}
 use Rattle.desk_answer.specs.Shown.{afterOf}
-use Rattle.desk_report.specs.Laying.{Laid, Room, tabbed, frameEnd, faultEnd, Holds, lineIn}
+use Rattle.desk_report.specs.Laying.{Laid, Space, tabbed, frameEnd, faultEnd, Holds, lineIn}
 use Rattle.desk_report.specs.Reporting.{answerAt, onwards, Stepped}
 
 -- six fields, the first three each with its tab
@@ -28,7 +28,7 @@ joined c v d k m r = rw (append-assoc c (tab ∷ []), append-assoc v (tab ∷ []
 
 -- an answer, and what it prints
 pub record Prints (customer vehicle : List ℕ) (r : Reading) (bytes : List ℕ) (x : Outcome) : Type 0 where
-  pub line : lineIn customer vehicle r bytes ≡ rowOf customer vehicle x
+  pub line : lineIn customer vehicle r bytes ≡ answerText customer vehicle x
   pub on : afterOf r ≡ onwards x
   pub holds : Holds r bytes
 
@@ -39,7 +39,7 @@ module _ (customer vehicle : List ℕ) where
   -- a good frame's bytes stand first
   frame-prints : (f : Good) (rest : List ℕ)
       → Prints customer vehicle (Frame (record { main = length (f .main); response = length (f .response) }) (f .kind) (place (f .opening)) (place (f .next))) ((f .main ++ f .response) ++ rest) (good f)
-  unfolding lineIn rowOf frameEnd
+  unfolding lineIn answerText frameEnd
   frame-prints f rest =
       let main : List ℕ = f .main in
       let response : List ℕ = f .response in
@@ -53,7 +53,7 @@ module _ (customer vehicle : List ℕ) where
       }
 
   prints : (ws : List ℕ) (p : ℕ) (x : Outcome) → Answer ws p x → (r : Reading) → told r ≡ tells x → (entry bytes : List ℕ) → bytes ≡ lentAfter x entry → Prints customer vehicle r bytes x
-  unfolding lineIn rowOf faultEnd
+  unfolding lineIn answerText faultEnd
   prints ws p x isSilence r e entry bytes l =
       rw (told-once r (Quiet (place p)) e) (record { line = joined customer vehicle (decimal p) w-quiet w-none w-none; on = refl; holds = tt })
   prints ws p x (isOpen {o} a b) r e entry bytes l =
@@ -72,9 +72,9 @@ module _ (customer vehicle : List ℕ) where
         prints ws p (answerAt ws p) (answer-is ws p h) r (q .tells-it ∙ ap (λ (m : ℕ). tells (reading ws p m)) (sym n))
         entry bytes (q .lends-it ∙ ap (λ (m : ℕ). lentAfter (reading ws p m) entry) (sym n))
 
-    pub answer-room : {at : ℕ} {lent : List ℕ} → Room at (rowOf customer vehicle (answerAt ws p)) lent → Room at (lineIn customer vehicle r bytes) lent
-    answer-room g = rw (read-prints .line) g
+    pub answer-space : {at : ℕ} {lent : List ℕ} → Space at (answerText customer vehicle (answerAt ws p)) lent → Space at (lineIn customer vehicle r bytes) lent
+    answer-space g = rw (read-prints .line) g
 
     pub answer-stepped : {at end : ℕ} {next : Next} {lent exit : List ℕ} → Laid at (lineIn customer vehicle r bytes) lent exit end → next ≡ afterOf r
         → Stepped customer vehicle ws p at lent exit (record { end = end; next = next })
-    answer-stepped x e = record { row = rw (read-prints .line) at x; follows = e ∙ read-prints .on }
+    answer-stepped x e = record { line = rw (read-prints .line) at x; follows = e ∙ read-prints .on }

@@ -1,4 +1,4 @@
--- Laws of laying text: one text after another, room for what is left, and how each function's stores lay its text.
+-- Laws of laying text: one text after another, space for what is left, and how each function's stores lay its text.
 use Prim.Native.Nat.{ℕ, zero, suc, _+_, _-_, _*_, _/_, _%_, _^_, _≤_, _<_}
 use mathlib.Core.Path.{_≡_, refl, sym, ap, _∙_}
 use mathlib.Core.List.{List, [], _∷_, _++_, append-nil, append-assoc}
@@ -15,7 +15,7 @@ use Rattle.laws.specs.Lent.{sets-then}
 use Rattle.laws.specs.Tests.{upTo}
 use Rattle.desk_text.specs.NumeralLaws.{hex-length}
 use Rattle.desk_text.specs.Numerals.{numeral, decimalIn, decimal, hexDigit, hex}
-use Rattle.desk_report.specs.Laying.{Laid, Room}
+use Rattle.desk_report.specs.Laying.{Laid, Space}
 
 -- ## One after another
 
@@ -31,11 +31,11 @@ pub laid-long : {a b : ℕ} {s o p : List ℕ} → Laid a s o p b → length p �
 laid-long {a} {b} {s} {o} {p} x = ap length (x .lays) ∙ length-sets o a s
 
 -- space for both is space for the first, and then space for the second
-pub room-first : {a : ℕ} (s t : List ℕ) {o : List ℕ} → Room a (s ++ t) o → Room a s o
-room-first s t h = record { fits = omega (arith, h .fits, length-append s t) }
+pub space-first : {a : ℕ} (s t : List ℕ) {o : List ℕ} → Space a (s ++ t) o → Space a s o
+space-first s t h = record { fits = omega (arith, h .fits, length-append s t) }
 
-pub room-next : {a b : ℕ} (s t : List ℕ) {o p : List ℕ} → Laid a s o p b → Room a (s ++ t) o → Room b t p
-room-next s t x h = record { fits = omega (arith, h .fits, x .ends, laid-long x, length-append s t) }
+pub space-next : {a b : ℕ} (s t : List ℕ) {o p : List ℕ} → Laid a s o p b → Space a (s ++ t) o → Space b t p
+space-next s t x h = record { fits = omega (arith, h .fits, x .ends, laid-long x, length-append s t) }
 
 -- ## Copied bytes
 
@@ -91,8 +91,8 @@ decimal-is n r f h = go r f (few-digits n r f h)
 
 -- the digits that were made are the numeral, and there is space for them where there is space for it
 module _ {n r : ℕ} {t : List ℕ} (f : Fewest 10 1 n r) (h : n < 18446744073709551616) (e : t ≡ digits 10 r n) where
-  pub number-room : (at : ℕ) (o : List ℕ) → Room at (decimal n) o → Room at t o
-  number-room at o k = rw (e ∙ decimal-is n r f h) k
+  pub number-space : (at : ℕ) (o : List ℕ) → Space at (decimal n) o → Space at t o
+  number-space at o k = rw (e ∙ decimal-is n r f h) k
 
   pub number-laid : {at end : ℕ} {o p : List ℕ} → Laid at t o p end → Laid at (decimal n) o p end
   number-laid x = rw (e ∙ decimal-is n r f h) at x
@@ -103,12 +103,12 @@ module _ {n r : ℕ} {t : List ℕ} (f : Fewest 10 1 n r) (h : n < 1844674407370
 pub record Hexing (s entry : List ℕ) (at : ℕ) (lent : List ℕ) (k i : ℕ) : Type 0 where
   pub inside : i ≤ length s
   pub place : k ≡ at + 2 * i
-  pub room : at + 2 * length s ≤ length entry
+  pub space : at + 2 * length s ≤ length entry
   pub long : length lent ≡ length entry
   pub left : sets lent k (hex (drop i s)) ≡ sets entry at (hex s)
 
-pub hexing-start : (s entry : List ℕ) (at : ℕ) → Room at (hex s) entry → Hexing s entry at entry at 0
-hexing-start s entry at r = record { inside = omega arith; place = omega arith; room = omega (arith, r .fits, hex-length s); long = refl; left = refl }
+pub hexing-start : (s entry : List ℕ) (at : ℕ) → Space at (hex s) entry → Hexing s entry at entry at 0
+hexing-start s entry at r = record { inside = omega arith; place = omega arith; space = omega (arith, r .fits, hex-length s); long = refl; left = refl }
 
 module _ {s entry lent : List ℕ} {at k i : ℕ} (h : Hexing s entry at lent k i) where
   pub hexing-on : {x y : ℕ} → i < length s → x ≡ hexDigit (getD s i 0 / 16) → y ≡ hexDigit (getD s i 0 % 16)
@@ -121,7 +121,7 @@ module _ {s entry lent : List ℕ} {at k i : ℕ} (h : Hexing s entry at lent k 
       record {
         inside = omega arith;
         place = omega (arith, h .place);
-        room = h .room;
+        space = h .space;
         long = length-set (set lent k x) (k + 1) y ∙ length-set lent k x ∙ h .long;
         left = rw (a, b, p, q, add-one) left;
       }
@@ -134,8 +134,8 @@ module _ {s entry lent : List ℕ} {at k i : ℕ} (h : Hexing s entry at lent k 
         lays = rw (drop-of-length-le s l) at (h .left);
       }
 
-  pub hexing-room : i < length s → k + 1 < length lent
-  hexing-room l = omega (arith, h .place, h .room, h .long)
+  pub hexing-space : i < length s → k + 1 < length lent
+  hexing-space l = omega (arith, h .place, h .space, h .long)
 
   pub hexing-second : (x : ℕ) → i < length s → k + 1 < length (set lent k x)
-  hexing-second x l = rw (length-set lent k x) (hexing-room l)
+  hexing-second x l = rw (length-set lent k x) (hexing-space l)

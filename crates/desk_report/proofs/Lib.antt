@@ -1,5 +1,5 @@
 pub mod Laying
-pub mod Lines
+pub mod Parts
 pub mod Answering
 pub mod Driving
 pub mod Wholes

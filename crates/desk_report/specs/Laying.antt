@@ -21,7 +21,7 @@ pub record Laid (at : ℕ) (text entry exit : List ℕ) (end : ℕ) : Type 0 whe
   pub lays : exit ≡ sets entry at text
 
 -- there is space for a text from a place on
-pub record Room (at : ℕ) (text lent : List ℕ) : Type 0 where
+pub record Space (at : ℕ) (text lent : List ℕ) : Type 0 where
   pub fits : at + length text ≤ length lent
 
 -- a field and the tab after it

@@ -8,11 +8,11 @@ use Rattle.frame.specs.Faults.{mostBytes}
 use Rattle.frame.specs.Reading.{Outcome, good, quiet, unfinished, faulty, refused, reading}
 use Rattle.frame.specs.ReadingOn.{answersIn}
 use Rattle.desk_text.specs.declared.Labels.{Labels}
-use Rattle.desk_text.specs.Report.{rowOf, rowsOf}
+use Rattle.desk_text.specs.Report.{answerText, answersText}
 use Rattle.desk_text.specs.LabelPlaces.{customerPlace}
 use Rattle.desk_answer.specs.declared.Next.{Next}
 use Rattle.desk_answer.specs.declared.Next.the-variants.{At, Nowhere}
-use Rattle.desk_report.specs.declared.rows.Step.{Step}
+use Rattle.desk_report.specs.declared.lines.Step.{Step}
 use Rattle.desk_report.specs.Laying.{Laid}
 
 -- the answer at a position ..
@@ -28,12 +28,12 @@ onwards (faulty number next) = At next
 onwards (refused number) = Nowhere
 
 -- the lines of the answers from p on
-unfoldable pub rowsFrom : List ℕ → List ℕ → List ℕ → ℕ → List ℕ
-rowsFrom customer vehicle ws p = rowsOf customer vehicle (answersIn (length ws + 1 - p) ws mostBytes p)
+unfoldable pub textFrom : List ℕ → List ℕ → List ℕ → ℕ → List ℕ
+textFrom customer vehicle ws p = answersText customer vehicle (answersIn (length ws + 1 - p) ws mostBytes p)
 
 -- one line is laid, and its end and what follows are answered
 pub record Stepped (customer vehicle ws : List ℕ) (p at : ℕ) (entry exit : List ℕ) (r : Step) : Type 0 where
-  pub row : Laid at (rowOf customer vehicle (answerAt ws p)) entry exit (r .end)
+  pub line : Laid at (answerText customer vehicle (answerAt ws p)) entry exit (r .end)
   pub follows : r .next ≡ onwards (answerAt ws p)
 
 -- the customer's label, by the labels' lengths in an input

@@ -2,14 +2,14 @@
 ghost use Prim.Native.Nat.{_+_, _≤_};
 ghost use lib.ListN.{length};
 ghost use Rattle.desk_text.specs.Numerals.{decimal, hex};
-ghost use Rattle.desk_report.specs.Laying.{Laid, Room, tabbed, responseEnd, frameEnd, faultEnd};
+ghost use Rattle.desk_report.specs.Laying.{Laid, Space, tabbed, responseEnd, frameEnd, faultEnd};
 use frame::Fault;
 use frame::Lengths;
 use frame::Response;
 
 // Bytes as they are.
 pub(crate) fn put(s: &[u8], lent: &mut [u8], at: usize) -> usize
-    requires { ⌜ Room at (now s) (now lent) ⌝ }
+    requires { ⌜ Space at (now s) (now lent) ⌝ }
     ensures { λ r. ⌜ Laid at (now (s .entry)) (now (lent .entry)) (now (lent .exit)) r ⌝ }
 {
     bytes::copy(s, &mut lent[at..]);
@@ -18,7 +18,7 @@ pub(crate) fn put(s: &[u8], lent: &mut [u8], at: usize) -> usize
 
 // A field and the tab after it.
 pub(crate) fn put_field(s: &[u8], lent: &mut [u8], at: usize) -> usize
-    requires { ⌜ Room at (tabbed (now s)) (now lent) ⌝ }
+    requires { ⌜ Space at (tabbed (now s)) (now lent) ⌝ }
     ensures { λ r. ⌜ Laid at (tabbed (now (s .entry))) (now (lent .entry)) (now (lent .exit)) r ⌝ }
 {
     let k = put(s, lent, at);
@@ -27,7 +27,7 @@ pub(crate) fn put_field(s: &[u8], lent: &mut [u8], at: usize) -> usize
 
 // A number in decimal.
 pub(crate) fn put_number(n: usize, lent: &mut [u8], at: usize) -> usize
-    requires { ⌜ Room at (decimal n) (now lent) ⌝ }
+    requires { ⌜ Space at (decimal n) (now lent) ⌝ }
     ensures { λ r. ⌜ Laid at (decimal n) (now (lent .entry)) (now (lent .exit)) r ⌝ }
 {
     let mut digits = [0u8; 20];
@@ -37,7 +37,7 @@ pub(crate) fn put_number(n: usize, lent: &mut [u8], at: usize) -> usize
 
 // A number and the tab after it.
 pub(crate) fn put_place(n: usize, lent: &mut [u8], at: usize) -> usize
-    requires { ⌜ Room at (tabbed (decimal n)) (now lent) ⌝ }
+    requires { ⌜ Space at (tabbed (decimal n)) (now lent) ⌝ }
     ensures { λ r. ⌜ Laid at (tabbed (decimal n)) (now (lent .entry)) (now (lent .exit)) r ⌝ }
 {
     let k = put_number(n, lent, at);
@@ -46,7 +46,7 @@ pub(crate) fn put_place(n: usize, lent: &mut [u8], at: usize) -> usize
 
 // Bytes in upper case hex.
 fn put_hex(s: &[u8], lent: &mut [u8], at: usize) -> usize
-    requires { ⌜ Room at (hex (now s)) (now lent) ⌝ }
+    requires { ⌜ Space at (hex (now s)) (now lent) ⌝ }
     ensures { λ r. ⌜ Laid at (hex (now (s .entry))) (now (lent .entry)) (now (lent .exit)) r ⌝ }
 {
     let mut k = at;
@@ -63,7 +63,7 @@ fn put_hex(s: &[u8], lent: &mut [u8], at: usize) -> usize
 
 // A response with its mark, or `-`; and the newline after it.
 fn put_response(kind: Response, s: &[u8], lent: &mut [u8], at: usize) -> usize
-    requires { ⌜ Room at (responseEnd kind (now s)) (now lent) ⌝ }
+    requires { ⌜ Space at (responseEnd kind (now s)) (now lent) ⌝ }
     ensures { λ r. ⌜ Laid at (responseEnd kind (now (s .entry))) (now (lent .entry)) (now (lent .exit)) r ⌝ }
 {
     let k1 = put(&desk_answer::mark(kind), lent, at);
@@ -83,7 +83,7 @@ pub(crate) fn put_frame(
     at: usize,
 ) -> usize
     requires { ⌜ lengths .main + lengths .response ≤ length (now s) ⌝ }
-    requires { ⌜ Room at (frameEnd lengths kind (now s)) (now lent) ⌝ }
+    requires { ⌜ Space at (frameEnd lengths kind (now s)) (now lent) ⌝ }
     ensures { λ r. ⌜ Laid at (frameEnd lengths kind (now (s .entry))) (now (lent .entry)) (now (lent .exit)) r ⌝ }
 {
     let m = lengths.main;
@@ -96,7 +96,7 @@ pub(crate) fn put_frame(
 
 // The kind of a fault, and no parts.
 pub(crate) fn put_fault(fault: Fault, lent: &mut [u8], at: usize) -> usize
-    requires { ⌜ Room at (faultEnd fault) (now lent) ⌝ }
+    requires { ⌜ Space at (faultEnd fault) (now lent) ⌝ }
     ensures { λ r. ⌜ Laid at (faultEnd fault) (now (lent .entry)) (now (lent .exit)) r ⌝ }
 {
     let k1 = put(b"fault-", lent, at);

@@ -21,8 +21,8 @@ use Rattle.frame.specs.ReadingOn.{nextOf, ReadsOn, last, more, reads-on}
 use Rattle.label.specs.Labels.{mostLabel}
 use Rattle.desk_text.specs.Input.{lines, mostWidths}
 use Rattle.desk_text.specs.Numerals.{decimal}
-use Rattle.desk_text.specs.Report.{lineOf, header, atOf, kindOf, mainOf, marked, responseOf, rowOf, rowsOf, answers, report}
-use Rattle.desk_text.specs.Calls.{mostText}
+use Rattle.desk_text.specs.Report.{lineOf, header, atOf, kindOf, mainOf, marked, responseOf, answerText, answersText, answers, report}
+use Rattle.desk_text.specs.Promise.{mostText}
 use Rattle.desk_text.specs.NumeralLaws.{five-digits, two-digits, hex-length}
 use Rattle.desk_text.specs.AnswerLaws.{answer-is}
 use Rattle.desk_text.specs.Stated.{Answer, isSilence, isOpen, isFrame, isFault}
@@ -77,39 +77,39 @@ up-inside : (k n : ℕ) → k < n → up k ≤ n
 up-inside k n h = omega arith
 
 -- how long the line of an answer can be, by its kind
-abbrev pub mostRow : Outcome → ℕ
-mostRow (good f) = 74
-mostRow (faulty number next) = 53
-mostRow (quiet next) = 50
-mostRow (unfinished opening) = 55
-mostRow (refused number) = 0
+abbrev pub mostLine : Outcome → ℕ
+mostLine (good f) = 74
+mostLine (faulty number next) = 53
+mostLine (quiet next) = 50
+mostLine (unfinished opening) = 55
+mostLine (refused number) = 0
 
 module _ (customer vehicle : List ℕ) (c : length customer ≤ mostLabel) (v : length vehicle ≤ mostLabel) where
   -- No line is longer.
-  pub row-size : (ws : List ℕ) (p : ℕ) (x : Outcome) → length ws ≤ mostWidths → p ≤ length ws → Answer ws p x → length (rowOf customer vehicle x) ≤ mostRow x
-  unfolding rowOf
-  row-size ws p x h i isSilence =
+  pub line-size : (ws : List ℕ) (p : ℕ) (x : Outcome) → length ws ≤ mostWidths → p ≤ length ws → Answer ws p x → length (answerText customer vehicle x) ≤ mostLine x
+  unfolding answerText
+  line-size ws p x h i isSilence =
       omega (arith, line-six customer vehicle (decimal (atOf x)) (kindOf x) (mainOf x) (responseOf x), five-digits p (omega arith))
-  row-size ws p x h i (isOpen {o} a b) =
+  line-size ws p x h i (isOpen {o} a b) =
       omega (arith, line-six customer vehicle (decimal (atOf x)) (kindOf x) (mainOf x) (responseOf x), five-digits o (omega arith))
-  row-size ws p x h i (isFrame {f} a b d e g) =
+  line-size ws p x h i (isFrame {f} a b d e g) =
       omega (arith, line-six customer vehicle (decimal (atOf x)) (kindOf x) (mainOf x) (responseOf x), five-digits (f .opening) (omega arith), hex-length (f .main), marked-size (f .kind) (f .response))
-  row-size ws p x h i (isFault {o} {k} {n} f e a b d g) =
+  line-size ws p x h i (isFault {o} {k} {n} f e a b d g) =
       omega (arith, line-six customer vehicle (decimal (atOf x)) (kindOf x) (mainOf x) (responseOf x), five-digits k (omega arith), two-digits n (omega (arith, fault-below f)))
 
   -- ## The lines of a recording
 
   module _ (ws : List ℕ) (h : length ws ≤ mostWidths) where
-    last-size : (p : ℕ) (x : Outcome) → p ≤ length ws → Answer ws p x → goesOn x ≡ false → length (rowOf customer vehicle x) ≤ 55
-    last-size p x i isSilence e = omega (arith, row-size ws p x h i isSilence)
-    last-size p x i (isOpen a b) e = row-size ws p x h i (isOpen a b)
+    last-size : (p : ℕ) (x : Outcome) → p ≤ length ws → Answer ws p x → goesOn x ≡ false → length (answerText customer vehicle x) ≤ 55
+    last-size p x i isSilence e = omega (arith, line-size ws p x h i isSilence)
+    last-size p x i (isOpen a b) e = line-size ws p x h i (isOpen a b)
     last-size p x i (isFrame a b d f g) e = never refl e
     last-size p x i (isFault f n a b d g) e = never refl e
 
     -- A frame or a fault uses up two places or more, at 27 bytes each: its opening stands at an even place, and the next
     -- opening cannot stand at the odd place after it.
     record Uses (p : ℕ) (x : Outcome) : Type 0 where
-      bytes : length (rowOf customer vehicle x) + 27 * (length ws - up (nextOf x)) ≤ 27 * (length ws - up p)
+      bytes : length (answerText customer vehicle x) + 27 * (length ws - up (nextOf x)) ≤ 27 * (length ws - up p)
       places : 2 + (length ws - up (nextOf x)) ≤ length ws - up p
       inside : nextOf x ≤ length ws
 
@@ -117,33 +117,33 @@ module _ (customer vehicle : List ℕ) (c : length customer ≤ mostLabel) (v : 
     uses p x i isSilence e = never e refl
     uses p x i (isOpen a b) e = never e refl
     uses p x i (isFrame {f} a b d g m) e =
-        let r = row-size ws p x h i (isFrame a b d g m) in
+        let r = line-size ws p x h i (isFrame a b d g m) in
         let u = up-to p (f .opening) a b in
         let w = up-inside (f .next) (length ws) g in
         record { bytes = omega arith; places = omega arith; inside = omega arith }
     uses p x i (isFault {o} {k} f n a b d g) e =
-        let r = row-size ws p x h i (isFault f n a b d g) in
+        let r = line-size ws p x h i (isFault f n a b d g) in
         let u = up-to p o a b in
         let v = up-after o k d b in
         let w = up-inside k (length ws) g in
         record { bytes = omega arith; places = omega arith; inside = omega arith }
 
     record Fits (p : ℕ) (xs : List Outcome) : Type 0 where
-      bytes : length (rowsOf customer vehicle xs) ≤ 55 + 27 * (length ws - up p)
+      bytes : length (answersText customer vehicle xs) ≤ 55 + 27 * (length ws - up p)
       lines : 2 * length xs ≤ 2 + (length ws - up p)
 
     fits : {p : ℕ} {xs : List Outcome} → p ≤ length ws → ReadsOn ws mostBytes p xs → Fits p xs
-    unfolding rowsOf
+    unfolding answersText
     fits i (last {s = p} e) =
         record {
-          bytes = omega (arith, last-size p (reading ws p mostBytes) i (answer-is ws p i) e, length-append (rowOf customer vehicle (reading ws p mostBytes)) []);
+          bytes = omega (arith, last-size p (reading ws p mostBytes) i (answer-is ws p i) e, length-append (answerText customer vehicle (reading ws p mostBytes)) []);
           lines = omega arith;
         }
     fits i (more {s = p} {xs} e r) =
         let u = uses p (reading ws p mostBytes) i (answer-is ws p i) e in
         let k = fits (u .inside) r in
         record {
-          bytes = omega (arith, u .bytes, k .bytes, length-append (rowOf customer vehicle (reading ws p mostBytes)) (rowsOf customer vehicle xs));
+          bytes = omega (arith, u .bytes, k .bytes, length-append (answerText customer vehicle (reading ws p mostBytes)) (answersText customer vehicle xs));
           lines = omega (arith, u .places, k .lines);
         }
 
@@ -157,4 +157,4 @@ module _ (customer vehicle : List ℕ) (c : length customer ≤ mostLabel) (v : 
     -- No report is longer than what is asked to be lent.
     pub report-size : length (report customer vehicle ws) ≤ mostText
     unfolding report
-    report-size = omega (arith, fits (omega arith) all-read .bytes, length-append header (rowsOf customer vehicle (answers ws)))
+    report-size = omega (arith, fits (omega arith) all-read .bytes, length-append header (answersText customer vehicle (answers ws)))

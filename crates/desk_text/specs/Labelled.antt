@@ -17,8 +17,8 @@ use Rattle.label.specs.Labels.{every, labelByte, mostLabel, among, isLabel}
 use Rattle.desk_text.specs.Grammar.{newline, tab, pieces, fields}
 use Rattle.desk_text.specs.Input.{Line, shut, lines, firstBad, customerOf, vehicleOf, recordingOf}
 use Rattle.desk_text.specs.Numerals.{numeral, decimalIn, decimal, hexDigit, hex}
-use Rattle.desk_text.specs.Report.{w-customer, w-vehicle, w-at, w-kind, w-main, w-response, w-refused, lineOf, refusal, atOf, kindOf, mainOf, marked, responseOf, rowOf, rowsOf, answers, report, deskOf}
-use Rattle.desk_text.specs.Stated.{joined, tellsOf, rowLine, rowLines, headerLine}
+use Rattle.desk_text.specs.Report.{w-customer, w-vehicle, w-at, w-kind, w-main, w-response, w-refused, lineOf, refusal, atOf, kindOf, mainOf, marked, responseOf, answerText, answersText, answers, report, deskOf}
+use Rattle.desk_text.specs.Stated.{joined, tellsOf, answerLine, answerLines, headerLine}
 use Rattle.desk_text.specs.GoodLines.{label-size}
 use Rattle.desk_text.specs.Bounds.{answers-few}
 use Rattle.desk_text.specs.Whole.{good-own, desk-good, desk-bad, recording-few}
@@ -186,43 +186,43 @@ response-plain (refused number) = refl
 -- ## The text's lines
 
 module _ (customer vehicle : List ℕ) (c : isLabel customer ≡ true) (v : isLabel vehicle ≡ true) where
-  row-plain : (x : Outcome) → All-plain (customer ∷ vehicle ∷ tellsOf x)
-  row-plain x = (label-plain customer c, (label-plain vehicle v, (decimal-plain 19 (atOf x), (kind-plain x, (main-plain x, (response-plain x, tt))))))
+  line-plain : (x : Outcome) → All-plain (customer ∷ vehicle ∷ tellsOf x)
+  line-plain x = (label-plain customer c, (label-plain vehicle v, (decimal-plain 19 (atOf x), (kind-plain x, (main-plain x, (response-plain x, tt))))))
 
   -- Each line has six fields: the customer, the vehicle, and what is told of the answer.
-  pub row-fields : (x : Outcome) → fields (rowLine customer vehicle x .bytes) ≡ customer ∷ vehicle ∷ tellsOf x
-  row-fields x = fields-again customer (vehicle ∷ tellsOf x) (row-plain x)
+  pub line-fields : (x : Outcome) → fields (answerLine customer vehicle x .bytes) ≡ customer ∷ vehicle ∷ tellsOf x
+  line-fields x = fields-again customer (vehicle ∷ tellsOf x) (line-plain x)
 
-  rows-lines : (xs : List Outcome) → lines (rowsOf customer vehicle xs) ≡ rowLines customer vehicle xs
-  unfolding rowsOf rowOf lines
-  rows-lines [] = refl
-  rows-lines (x ∷ xs) =
-      line-after customer (vehicle ∷ tellsOf x) (rowsOf customer vehicle xs) (row-plain x)
-      ∙ ap (λ (ls : List Line). rowLine customer vehicle x ∷ ls) (rows-lines xs)
+  answers-lines : (xs : List Outcome) → lines (answersText customer vehicle xs) ≡ answerLines customer vehicle xs
+  unfolding answersText answerText lines
+  answers-lines [] = refl
+  answers-lines (x ∷ xs) =
+      line-after customer (vehicle ∷ tellsOf x) (answersText customer vehicle xs) (line-plain x)
+      ∙ ap (λ (ls : List Line). answerLine customer vehicle x ∷ ls) (answers-lines xs)
 
-  report-lines : (ws : List ℕ) → lines (report customer vehicle ws) ≡ headerLine ∷ rowLines customer vehicle (answers ws)
+  report-lines : (ws : List ℕ) → lines (report customer vehicle ws) ≡ headerLine ∷ answerLines customer vehicle (answers ws)
   unfolding report every parts-not
   report-lines ws =
-      line-after w-customer (w-vehicle ∷ w-at ∷ w-kind ∷ w-main ∷ w-response ∷ []) (rowsOf customer vehicle (answers ws)) (refl, (refl, (refl, (refl, (refl, (refl, tt))))))
-      ∙ ap (λ (ls : List Line). headerLine ∷ ls) (rows-lines (answers ws))
+      line-after w-customer (w-vehicle ∷ w-at ∷ w-kind ∷ w-main ∷ w-response ∷ []) (answersText customer vehicle (answers ws)) (refl, (refl, (refl, (refl, (refl, (refl, tt))))))
+      ∙ ap (λ (ls : List Line). headerLine ∷ ls) (answers-lines (answers ws))
 
-rows-count : (customer vehicle : List ℕ) (xs : List Outcome) → length (rowLines customer vehicle xs) ≡ length xs
-rows-count customer vehicle [] = refl
-rows-count customer vehicle (x ∷ xs) = ap suc (rows-count customer vehicle xs)
+lines-count : (customer vehicle : List ℕ) (xs : List Outcome) → length (answerLines customer vehicle xs) ≡ length xs
+lines-count customer vehicle [] = refl
+lines-count customer vehicle (x ∷ xs) = ap suc (lines-count customer vehicle xs)
 
 -- The lines of the text of a good input: the header, and a line with its own customer and vehicle for each answer.
 pub good-lines : (s : List ℕ) → firstBad (lines s) ≡ 0
-    → lines (deskOf s) ≡ headerLine ∷ rowLines (customerOf (lines s)) (vehicleOf (lines s)) (answers (recordingOf (lines s)))
+    → lines (deskOf s) ≡ headerLine ∷ answerLines (customerOf (lines s)) (vehicleOf (lines s)) (answers (recordingOf (lines s)))
 good-lines s e =
     let o = good-own (lines s) e in
     ap lines (desk-good s e) ∙ report-lines (customerOf (lines s)) (vehicleOf (lines s)) (o .customer) (o .vehicle) (recordingOf (lines s))
 
 -- Each of them but the header has six fields, and the first two are this recording's own labels.
 pub own-labels : (s : List ℕ) → firstBad (lines s) ≡ 0 → (x : Outcome)
-    → fields (rowLine (customerOf (lines s)) (vehicleOf (lines s)) x .bytes) ≡ customerOf (lines s) ∷ vehicleOf (lines s) ∷ tellsOf x
+    → fields (answerLine (customerOf (lines s)) (vehicleOf (lines s)) x .bytes) ≡ customerOf (lines s) ∷ vehicleOf (lines s) ∷ tellsOf x
 own-labels s e x =
     let o = good-own (lines s) e in
-    row-fields (customerOf (lines s)) (vehicleOf (lines s)) (o .customer) (o .vehicle) x
+    line-fields (customerOf (lines s)) (vehicleOf (lines s)) (o .customer) (o .vehicle) x
 
 -- The text of a bad input is one line.
 pub bad-lines : (s : List ℕ) → ¬ (firstBad (lines s) ≡ 0) → lines (deskOf s) ≡ shut (joined tab (w-refused ∷ decimal (firstBad (lines s)) ∷ [])) ∷ []
@@ -244,5 +244,5 @@ lines-few s = go (eqb (firstBad (lines s)) 0) refl
         let e : firstBad (lines s) ≡ 0 = eqb-true (firstBad (lines s)) 0 p in
         let o = good-own (lines s) e in
         let few : 2 * length (answers (recordingOf (lines s))) ≤ length (recordingOf (lines s)) + 2 = answers-few (customerOf (lines s)) (vehicleOf (lines s)) (label-size (customerOf (lines s)) (o .customer) .1) (label-size (vehicleOf (lines s)) (o .vehicle) .1) (recordingOf (lines s)) (recording-few (lines s)) in
-        omega (arith, ap length (good-lines s e), rows-count (customerOf (lines s)) (vehicleOf (lines s)) (answers (recordingOf (lines s))), recording-few (lines s))
+        omega (arith, ap length (good-lines s e), lines-count (customerOf (lines s)) (vehicleOf (lines s)) (answers (recordingOf (lines s))), recording-few (lines s))
     go false p = omega (arith, ap length (bad-lines s (eqb-false (firstBad (lines s)) 0 p)))

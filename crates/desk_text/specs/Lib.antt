@@ -3,8 +3,8 @@ pub mod Grammar
 pub mod Input
 pub mod Numerals
 pub mod Report
-pub mod Calls
-pub mod Example
+pub mod Promise
+pub mod Worked
 pub mod Stated
 -- Laws.
 pub mod PieceLaws
@@ -15,6 +15,7 @@ pub mod NumeralLaws
 pub mod Bounds
 pub mod Whole
 pub mod LabelPlaces
-pub mod CallLaws
+pub mod Settled
+pub mod ExactlyWhen
 pub mod Labelled
 pub mod Refused

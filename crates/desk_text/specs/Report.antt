@@ -130,15 +130,15 @@ responseOf (faulty number next) = w-none
 responseOf (refused number) = w-none
 
 -- the line of an answer, in the header's columns
-unfoldable pub rowOf : List ℕ → List ℕ → Outcome → List ℕ
-rowOf customer vehicle x = lineOf (customer ∷ vehicle ∷ decimal (atOf x) ∷ kindOf x ∷ mainOf x ∷ responseOf x ∷ [])
+unfoldable pub answerText : List ℕ → List ℕ → Outcome → List ℕ
+answerText customer vehicle x = lineOf (customer ∷ vehicle ∷ decimal (atOf x) ∷ kindOf x ∷ mainOf x ∷ responseOf x ∷ [])
 
 -- ## The whole text
 
 -- a line for each answer
-unfoldable pub rowsOf : List ℕ → List ℕ → List Outcome → List ℕ
-rowsOf customer vehicle [] = []
-rowsOf customer vehicle (x ∷ xs) = rowOf customer vehicle x ++ rowsOf customer vehicle xs
+unfoldable pub answersText : List ℕ → List ℕ → List Outcome → List ℕ
+answersText customer vehicle [] = []
+answersText customer vehicle (x ∷ xs) = answerText customer vehicle x ++ answersText customer vehicle xs
 
 -- the answers from the recording's start, each read from the next position of the one before, "until quiet or unfinished"
 abbrev pub answers : List ℕ → List Outcome
@@ -146,7 +146,7 @@ answers ws = answersIn (length ws + 1) ws mostBytes 0
 
 -- "a header, then a line for each answer"
 unfoldable pub report : List ℕ → List ℕ → List ℕ → List ℕ
-report customer vehicle ws = header ++ rowsOf customer vehicle (answers ws)
+report customer vehicle ws = header ++ answersText customer vehicle (answers ws)
 
 -- "Any other input gives the single line .. Otherwise a header, then .."
 abbrev pub deskBy : List Line → List ℕ

@@ -3,7 +3,6 @@
 use Prim.Native.Nat.{ℕ, _≤_, _<_, _%_, _+_}
 use mathlib.Core.Bool.{true}
 use mathlib.Core.List.{List, [], _∷_, _++_}
-use mathlib.Core.Logic.{_↔_, _⊎_}
 use mathlib.Core.Path.{_≡_}
 use lib.ListN.{length}
 use Rattle.frame.specs.declared.Fault.{Fault}
@@ -11,9 +10,8 @@ use Rattle.frame.specs.ReadPromise.{faultNumber}
 use Rattle.frame.specs.Faults.{mostBytes}
 use Rattle.frame.specs.Reading.{Outcome, quiet, unfinished, Good, good, faulty}
 use Rattle.label.specs.Labels.{isLabel}
-use Rattle.desk_text.specs.Calls.{mostText}
 use Rattle.desk_text.specs.Grammar.{tab, isWidth}
-use Rattle.desk_text.specs.Input.{Line, own, field, iv, firstBad, lines, mostWidths, shut}
+use Rattle.desk_text.specs.Input.{Line, own, field, iv, shut}
 use Rattle.desk_text.specs.Numerals.{decimal}
 use Rattle.desk_text.specs.Report.{atOf, kindOf, mainOf, responseOf, w-customer, w-vehicle, w-at, w-kind, w-main, w-response}
 
@@ -44,29 +42,18 @@ pub data Answer (ws : List ℕ) (p : ℕ) : Outcome → Type 0 where
       → length (f .main) + length (f .response) ≤ mostBytes → Answer ws p (good f)
   isFault : {o k n : ℕ} (f : Fault) → faultNumber f ≡ n → p ≤ o → o % 2 ≡ 0 → o < k → k < length ws → Answer ws p (faulty n k)
 
--- Each number comes exactly when its rule holds.
-pub record Rules (s : List ℕ) (Short : Type 0) (number line : ℕ) : Type 0 where
-  pub short-exactly : (number ≡ 61) ↔ Short
-  pub bad-exactly : (number ≡ 62) ↔ ((¬ Short) × (¬ (firstBad (lines s) ≡ 0)))
-  pub bad-line : number ≡ 62 → line ≡ firstBad (lines s)
-  pub good-exactly : (number ≡ 0) ↔ ((¬ Short) × (firstBad (lines s) ≡ 0))
-
--- too few words or too few bytes are lent
-abbrev pub Short : ℕ → ℕ → Type 0
-Short words bytes = (words < mostWidths) ⊎ (bytes < mostText)
-
 -- what a line tells of an answer, whoever's the recording is
 abbrev pub tellsOf : Outcome → List (List ℕ)
 tellsOf x = decimal (atOf x) ∷ kindOf x ∷ mainOf x ∷ responseOf x ∷ []
 
 -- the line of an answer, without its newline
-abbrev pub rowLine : List ℕ → List ℕ → Outcome → Line
-rowLine customer vehicle x = shut (joined tab (customer ∷ vehicle ∷ tellsOf x))
+abbrev pub answerLine : List ℕ → List ℕ → Outcome → Line
+answerLine customer vehicle x = shut (joined tab (customer ∷ vehicle ∷ tellsOf x))
 
 -- the lines of the answers
-abbrev pub rowLines : List ℕ → List ℕ → List Outcome → List Line
-rowLines customer vehicle [] = []
-rowLines customer vehicle (x ∷ xs) = rowLine customer vehicle x ∷ rowLines customer vehicle xs
+abbrev pub answerLines : List ℕ → List ℕ → List Outcome → List Line
+answerLines customer vehicle [] = []
+answerLines customer vehicle (x ∷ xs) = answerLine customer vehicle x ∷ answerLines customer vehicle xs
 
 -- the header, without its newline
 abbrev pub headerLine : Line

@@ -13,7 +13,7 @@ use Rattle.desk_text.specs.Grammar.{spelt}
 use Rattle.desk_text.specs.Input.{Line, lines, field, ownLine, ivLine, ivAt, mostWidths, badFrom, widthsFrom, firstBad, firstLine, laterLines, customerOf, vehicleOf, recordingOf}
 use Rattle.desk_text.specs.Numerals.{decimal}
 use Rattle.desk_text.specs.Report.{refusal, report, deskOf}
-use Rattle.desk_text.specs.Calls.{mostText}
+use Rattle.desk_text.specs.Promise.{mostText}
 use Rattle.desk_text.specs.GoodLines.{own-is, label-size}
 use Rattle.desk_text.specs.Stated.{OwnIs}
 use Rattle.desk_text.specs.NumeralLaws.{five-digits}

@@ -1,7 +1,7 @@
 -- `desk_as` gives the numbers of the answer: at each arm the answer is the arm's case.
 use mathlib.Core.Path.{sym, ap}
 use Rattle.desk_text.specs.declared.Answered.{Answered}
-use Rattle.desk_text.specs.Calls.{answeredTold}
+use Rattle.desk_text.specs.Promise.{answeredTold}
 use Rattle.c_frame_answers.specs.Answers.{deskAs}
 use borrow.Author.Needs.{needs}
 use Rattle.c_frame_answers.proofs.desk_as.Statement.{statement}

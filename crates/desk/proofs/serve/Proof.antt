@@ -4,8 +4,8 @@ use borrow.Author.Needs.{needs}
 use Rattle.desk.proofs.serve.Statement.{statement}
 use Rattle.desk.proofs.serve.Tie as tie
 
-room-requires : tie.Need-room-requires
-room-requires c κs = search needs
+space-requires : tie.Need-space-requires
+space-requires c κs = search needs
 
 slice-aggregate-fill : tie.Need-slice-aggregate-fill
 slice-aggregate-fill c = search needs
@@ -41,7 +41,7 @@ pub serve-spec : {M : Type 1} → statement M
 serve-spec =
     tie.close
     (tie.spec
-    room-requires
+    space-requires
     slice-aggregate-fill
     fill-requires
     enum-known-filled

@@ -1,5 +1,5 @@
 -- `desk_report::desk` meets its promise: a law of `Wholes` for each way out.
-use Rattle.desk_report.proofs.Wholes.{few-lent, words-enough, bytes-enough, widths-inside, labels-within, report-room, desk-reports, refusal-room, desk-refuses, not-few}
+use Rattle.desk_report.proofs.Wholes.{few-lent, words-enough, bytes-enough, widths-inside, labels-within, report-space, desk-reports, refusal-space, desk-refuses, not-few}
 use mathlib.Core.Path.{sym}
 use lib.Seq.{length-take-le}
 use borrow.Author.Needs.{needs}
@@ -27,14 +27,14 @@ slice-aggregate-put-report c = sym (length-take-le _ _ (widths-inside (c .before
 put-report-requires : tie.Need-put-report-requires
 put-report-requires c κs = (
   labels-within (c .before .before .before .before .before .before .before .before .before .before .before .before .before .before .args .input .now) (c .before .before .before .before .before .before .before .before .before .before .before .before .before .before .args .words .now) (search (needs, words-enough)) (c .before .before .before .judged .given .1) (c .before .before .before .before .before .before .before .judge .ensures),
-  report-room (c .before .before .before .before .before .before .before .before .before .before .before .before .before .before .args .input .now) (c .before .before .before .before .before .before .before .before .before .before .before .before .before .before .args .words .now) (search (needs, words-enough)) (c .before .before .before .judged .given .1) (c .before .before .before .before .before .before .before .judge .ensures) (search (needs, bytes-enough)),
+  report-space (c .before .before .before .before .before .before .before .before .before .before .before .before .before .before .args .input .now) (c .before .before .before .before .before .before .before .before .before .before .before .before .before .before .args .words .now) (search (needs, words-enough)) (c .before .before .before .judged .given .1) (c .before .before .before .before .before .before .before .judge .ensures) (search (needs, bytes-enough)),
 )
 
 enum-known-judged-2 : tie.Need-enum-known-judged-2
 enum-known-judged-2 c = search needs
 
 put-refusal-requires : tie.Need-put-refusal-requires
-put-refusal-requires c κs = refusal-room (c .before .before .before .before .before .before .before .before .before .before .before .before .before .args .input .now) (c .before .before .before .before .before .before .before .before .before .before .before .before .before .args .words .now) (search (needs, words-enough)) (c .before .before .judged2 .given .1) (c .before .before .before .before .before .before .judge .ensures) (search (needs, bytes-enough))
+put-refusal-requires c κs = refusal-space (c .before .before .before .before .before .before .before .before .before .before .before .before .before .args .input .now) (c .before .before .before .before .before .before .before .before .before .before .before .before .before .args .words .now) (search (needs, words-enough)) (c .before .before .judged2 .given .1) (c .before .before .before .before .before .before .judge .ensures) (search (needs, bytes-enough))
 
 enum-told : tie.Need-enum-told
 enum-told c = search needs

@@ -1,5 +1,5 @@
 -- `desk_report::put_refusal` meets its contract: three texts, one after another.
-use Rattle.desk_report.proofs.Lines.{refused-2, refused-3, refused-laid}
+use Rattle.desk_report.proofs.Parts.{refused-2, refused-3, refused-laid}
 use borrow.Author.Needs.{needs}
 use Rattle.desk_report.proofs.put_refusal.Statement.{statement}
 use Rattle.desk_report.proofs.put_refusal.Tie as tie

@@ -19,29 +19,29 @@ slice-aggregate-put c = search needs
 put-requires : tie.Need-put-requires
 put-requires c κs = search (needs, report-1)
 
-sub-put-rows : tie.Need-sub-put-rows
-sub-put-rows c = search needs
+sub-put-lines : tie.Need-sub-put-lines
+sub-put-lines c = search needs
 
-part-put-rows-start : tie.Need-part-put-rows-start
-part-put-rows-start c = search needs
+part-put-lines-start : tie.Need-part-put-lines-start
+part-put-lines-start c = search needs
 
-part-put-rows-end : tie.Need-part-put-rows-end
-part-put-rows-end c = search needs
+part-put-lines-end : tie.Need-part-put-lines-end
+part-put-lines-end c = search needs
 
-add-put-rows : tie.Need-add-put-rows
-add-put-rows c = search needs
+add-put-lines : tie.Need-add-put-lines
+add-put-lines c = search needs
 
-sub-put-rows-2 : tie.Need-sub-put-rows-2
-sub-put-rows-2 c = search needs
+sub-put-lines-2 : tie.Need-sub-put-lines-2
+sub-put-lines-2 c = search needs
 
-part-put-rows-start-2 : tie.Need-part-put-rows-start-2
-part-put-rows-start-2 c = search needs
+part-put-lines-start-2 : tie.Need-part-put-lines-start-2
+part-put-lines-start-2 c = search needs
 
-part-put-rows-end-2 : tie.Need-part-put-rows-end-2
-part-put-rows-end-2 c = search needs
+part-put-lines-end-2 : tie.Need-part-put-lines-end-2
+part-put-lines-end-2 c = search needs
 
-put-rows-requires : tie.Need-put-rows-requires
-put-rows-requires c κs =
+put-lines-requires : tie.Need-put-lines-requires
+put-lines-requires c κs =
     let a = c .before .before .before .before .before .before .before .before .before .before .before .before .before .args in
     report-2 (a .input .now) (a .labels) (a .widths .now) (c .before .before .before .before .before .before .before .before .before .before .before .before .before .pre .1) (c .before .before .before .before .before .put .ensures)
 
@@ -51,7 +51,7 @@ same-length c = search needs
 returns : tie.Need-returns
 returns c =
     let a = c .before .before .before .before .before .before .before .before .before .before .before .before .before .before .before .before .args in
-    report-laid (a .input .now) (a .labels) (a .widths .now) (c .before .before .before .before .before .before .before .before .before .before .before .before .before .before .before .before .pre .1) (c .before .before .before .before .before .before .before .before .put .ensures) (c .before .before .put-rows .ensures)
+    report-laid (a .input .now) (a .labels) (a .widths .now) (c .before .before .before .before .before .before .before .before .before .before .before .before .before .before .before .before .pre .1) (c .before .before .before .before .before .before .before .before .put .ensures) (c .before .before .put-lines .ensures)
 
 pub put-report-spec : {M : Type 1} → statement M
 put-report-spec =
@@ -62,13 +62,13 @@ put-report-spec =
     add-v-2
     slice-aggregate-put
     put-requires
-    sub-put-rows
-    part-put-rows-start
-    part-put-rows-end
-    add-put-rows
-    sub-put-rows-2
-    part-put-rows-start-2
-    part-put-rows-end-2
-    put-rows-requires
+    sub-put-lines
+    part-put-lines-start
+    part-put-lines-end
+    add-put-lines
+    sub-put-lines-2
+    part-put-lines-start-2
+    part-put-lines-end-2
+    put-lines-requires
     same-length
     returns)

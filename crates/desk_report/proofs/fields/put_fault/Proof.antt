@@ -1,5 +1,5 @@
 -- `desk_report::put_fault` meets its contract: three texts, one after another.
-use Rattle.desk_report.proofs.Lines.{fault-1, fault-2, fault-3, fault-laid}
+use Rattle.desk_report.proofs.Parts.{fault-1, fault-2, fault-3, fault-laid}
 use borrow.Author.Needs.{needs}
 use Rattle.desk_report.proofs.fields.put_fault.Statement.{statement}
 use Rattle.desk_report.proofs.fields.put_fault.Tie as tie

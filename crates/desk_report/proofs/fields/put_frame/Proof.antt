@@ -1,5 +1,5 @@
 -- `desk_report::put_frame` meets its contract: four texts, one after another.
-use Rattle.desk_report.proofs.Lines.{frame-1, frame-2, frame-3, frame-4, frame-laid}
+use Rattle.desk_report.proofs.Parts.{frame-1, frame-2, frame-3, frame-4, frame-laid}
 use mathlib.Core.Path.{sym}
 use lib.Seq.{length-take-le}
 use borrow.Author.Needs.{needs}

@@ -1,5 +1,5 @@
 -- `desk_report::put_hex` meets its contract: what is laid so far and the bytes left are the whole.
-use Rattle.desk_report.proofs.Laying.{Hexing, hexing-start, hexing-on, hexing-end, hexing-room, hexing-second}
+use Rattle.desk_report.proofs.Laying.{Hexing, hexing-start, hexing-on, hexing-end, hexing-space, hexing-second}
 use lib.ListN.{length}
 use Prim.Native.Nat.{_-_}
 use borrow.Author.Needs.{needs}
@@ -22,7 +22,7 @@ high-requires : tie.Need-high-requires Inv-loop μ-loop
 high-requires c κs = search needs
 
 slice-write-lent : tie.Need-slice-write-lent Inv-loop μ-loop
-slice-write-lent c = search (needs, hexing-room)
+slice-write-lent c = search (needs, hexing-space)
 
 low-requires : tie.Need-low-requires Inv-loop μ-loop
 low-requires c κs = search needs

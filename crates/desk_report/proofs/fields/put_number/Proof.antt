@@ -1,5 +1,5 @@
 -- `desk_report::put_number` meets its contract: the digits that were made are the decimal numeral.
-use Rattle.desk_report.proofs.Laying.{number-room, number-laid}
+use Rattle.desk_report.proofs.Laying.{number-space, number-laid}
 use borrow.Author.Needs.{needs}
 use Rattle.desk_report.proofs.fields.put_number.Statement.{statement}
 use Rattle.desk_report.proofs.fields.put_number.Tie as tie
@@ -14,7 +14,7 @@ slice-aggregate-put : tie.Need-slice-aggregate-put
 slice-aggregate-put c = search needs
 
 put-requires : tie.Need-put-requires
-put-requires c κs = search (needs, number-room)
+put-requires c κs = search (needs, number-space)
 
 same-length : tie.Need-same-length
 same-length c = search needs

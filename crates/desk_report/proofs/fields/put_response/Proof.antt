@@ -1,5 +1,5 @@
 -- `desk_report::put_response` meets its contract: the mark, and after it the bytes and the newline, or nothing.
-use Rattle.desk_report.proofs.Lines.{response-1, without-laid, response-2, response-3, response-laid}
+use Rattle.desk_report.proofs.Parts.{response-1, without-laid, response-2, response-3, response-laid}
 use borrow.Author.Needs.{needs}
 use Rattle.desk_report.proofs.fields.put_response.Statement.{statement}
 use Rattle.desk_report.proofs.fields.put_response.Tie as tie

@@ -1,10 +1,10 @@
--- `desk_report::put_rows` meets its contract: a law of `Driving` for the way out of the loop, and for the way on.
-use Rattle.desk_report.proofs.Driving.{Left, left-start, left-room, left-end, left-next, left-less}
+-- `desk_report::put_lines` meets its contract: a law of `Driving` for the way out of the loop, and for the way on.
+use Rattle.desk_report.proofs.Driving.{Left, left-start, left-space, left-end, left-next, left-less}
 use Prim.Native.Nat.{_-_}
 use lib.ListN.{length}
 use borrow.Author.Needs.{needs}
-use Rattle.desk_report.proofs.rows.put_rows.Statement.{statement}
-use Rattle.desk_report.proofs.rows.put_rows.Tie as tie
+use Rattle.desk_report.proofs.lines.put_lines.Statement.{statement}
+use Rattle.desk_report.proofs.lines.put_lines.Tie as tie
 
 abbrev Inv-loop : tie.InvT-loop
 Inv-loop customer vehicle widths lent₀ at k₀ p₀ lent k p = Left customer vehicle widths lent₀ at lent k p
@@ -16,7 +16,7 @@ loop-holds : tie.Need-loop-holds Inv-loop μ-loop
 loop-holds c = search (needs, left-start)
 
 put-answer-requires : tie.Need-put-answer-requires Inv-loop μ-loop
-put-answer-requires c κs = (search needs, left-room _ _ _ (c .before .loop .inv))
+put-answer-requires c κs = (search needs, left-space _ _ _ (c .before .loop .inv))
 
 enum-known-next : tie.Need-enum-known-next Inv-loop μ-loop
 enum-known-next c = search needs
@@ -36,8 +36,8 @@ same-length c = search needs
 returns : tie.Need-returns Inv-loop μ-loop
 returns c = search (needs, left-end)
 
-pub put-rows-spec : {M : Type 1} → statement M
-put-rows-spec =
+pub put-lines-spec : {M : Type 1} → statement M
+put-lines-spec =
     tie.close
     (tie.spec
     Inv-loop

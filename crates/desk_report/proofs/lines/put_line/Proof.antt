@@ -1,8 +1,8 @@
--- `desk_report::put_row` meets its contract: four texts, one after another.
-use Rattle.desk_report.proofs.Lines.{line-1, line-2, line-3, line-4, line-laid}
+-- `desk_report::put_line` meets its contract: four texts, one after another.
+use Rattle.desk_report.proofs.Parts.{line-1, line-2, line-3, line-4, line-laid}
 use borrow.Author.Needs.{needs}
-use Rattle.desk_report.proofs.rows.put_row.Statement.{statement}
-use Rattle.desk_report.proofs.rows.put_row.Tie as tie
+use Rattle.desk_report.proofs.lines.put_line.Statement.{statement}
+use Rattle.desk_report.proofs.lines.put_line.Tie as tie
 
 put-field-requires : tie.Need-put-field-requires
 put-field-requires c κs = search (needs, line-1)
@@ -28,8 +28,8 @@ same-length c = search needs
 returns : tie.Need-returns
 returns c = search (needs, line-laid)
 
-pub put-row-spec : {M : Type 1} → statement M
-put-row-spec =
+pub put-line-spec : {M : Type 1} → statement M
+put-line-spec =
     tie.close
     (tie.spec
     put-field-requires

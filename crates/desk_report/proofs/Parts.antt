@@ -1,4 +1,4 @@
--- The parts of a line, one after another: room for each in turn, and what they come to together.
+-- The parts of a line, one after another: space for each in turn, and what they come to together.
 use Prim.Native.Nat.{ℕ, _+_, _-_, _≤_}
 use mathlib.Core.Path.{_≡_, refl, sym, _∙_}
 use mathlib.Core.Bool.{Bool, true, false}
@@ -17,8 +17,8 @@ use Rattle.desk_text.specs.Grammar.{newline, tab}
 use Rattle.desk_text.specs.Numerals.{decimal, hex}
 use Rattle.desk_text.specs.Report.{w-refused, w-frame, w-fault, w-none, refusal}
 use Rattle.desk_answer.specs.Shown.{isWithout, markOf}
-use Rattle.desk_report.specs.Laying.{Laid, Room, tabbed, responseEnd, frameEnd, faultEnd, endOf, Holds, placeOf, lineIn}
-use Rattle.desk_report.proofs.Laying.{then, room-first, room-next}
+use Rattle.desk_report.specs.Laying.{Laid, Space, tabbed, responseEnd, frameEnd, faultEnd, endOf, Holds, placeOf, lineIn}
+use Rattle.desk_report.proofs.Laying.{then, space-first, space-next}
 
 -- ## A response
 
@@ -43,12 +43,12 @@ with-rest Without s e = let z : _≡_ {A = ℕ} 0 1 = cc in absurd (omega arith)
 with-rest Plain s e = refl
 with-rest Checked s e = refl
 
-module _ {at : ℕ} {o m : List ℕ} (kind : Response) (s : List ℕ) (e : m ≡ markOf kind) (h : Room at (responseEnd kind s) o) where
-  marked-room : Room at (m ++ restOf kind s) o
-  marked-room = rw (e, ← marked-whole kind s) h
+module _ {at : ℕ} {o m : List ℕ} (kind : Response) (s : List ℕ) (e : m ≡ markOf kind) (h : Space at (responseEnd kind s) o) where
+  marked-space : Space at (m ++ restOf kind s) o
+  marked-space = rw (e, ← marked-whole kind s) h
 
-  pub response-1 : Room at m o
-  response-1 = room-first m (restOf kind s) marked-room
+  pub response-1 : Space at m o
+  response-1 = space-first m (restOf kind s) marked-space
 
   module _ {k : ℕ} {p : List ℕ} (x : Laid at m o p k) where
     pub without-laid : {b : Bool} → b ≡ isWithout kind → b ≡ true → Laid at (responseEnd kind s) o p k
@@ -58,15 +58,15 @@ module _ {at : ℕ} {o m : List ℕ} (kind : Response) (s : List ℕ) (e : m ≡
       w : isWithout kind ≡ false
       w = sym d ∙ f
 
-      after-mark : Room k (hex s ++ (newline ∷ [])) p
-      after-mark = rw (← with-rest kind s w) (room-next m (restOf kind s) x marked-room)
+      after-mark : Space k (hex s ++ (newline ∷ [])) p
+      after-mark = rw (← with-rest kind s w) (space-next m (restOf kind s) x marked-space)
 
-      pub response-2 : Room k (hex s) p
-      response-2 = room-first (hex s) (newline ∷ []) after-mark
+      pub response-2 : Space k (hex s) p
+      response-2 = space-first (hex s) (newline ∷ []) after-mark
 
       module _ {j : ℕ} {q : List ℕ} (y : Laid k (hex s) p q j) where
-        pub response-3 : Room j (newline ∷ []) q
-        response-3 = room-next (hex s) (newline ∷ []) y after-mark
+        pub response-3 : Space j (newline ∷ []) q
+        response-3 = space-next (hex s) (newline ∷ []) y after-mark
 
         pub response-laid : {i : ℕ} {r : List ℕ} → Laid j (newline ∷ []) q r i → Laid at (responseEnd kind s) o r i
         response-laid z = rw (marked-whole kind s, with-rest kind s w, ← e) (then x (then y z))
@@ -80,37 +80,37 @@ frameWord = w-frame ++ (tab ∷ [])
 part : (m r : ℕ) (s : List ℕ) → take (m + r - m) (drop m s) ≡ take r (drop m s)
 part m r s = let e : m + r - m ≡ r = omega arith in rw e
 
-module _ {at : ℕ} {o : List ℕ} (n : Lengths) (kind : Response) (s : List ℕ) (h : Room at (frameEnd n kind s) o) where
+module _ {at : ℕ} {o : List ℕ} (n : Lengths) (kind : Response) (s : List ℕ) (h : Space at (frameEnd n kind s) o) where
   abbrev mainPart : List ℕ
   mainPart = hex (take (n .main) s)
 
   abbrev responsePart : List ℕ
   responsePart = responseEnd kind (take (n .main + n .response - n .main) (drop (n .main) s))
 
-  whole : Room at (frameWord ++ (mainPart ++ ((tab ∷ []) ++ responsePart))) o
+  whole : Space at (frameWord ++ (mainPart ++ ((tab ∷ []) ++ responsePart))) o
   unfolding frameEnd
   whole = rw (part (n .main) (n .response) s) h
 
-  pub frame-1 : Room at frameWord o
-  frame-1 = room-first frameWord (mainPart ++ ((tab ∷ []) ++ responsePart)) whole
+  pub frame-1 : Space at frameWord o
+  frame-1 = space-first frameWord (mainPart ++ ((tab ∷ []) ++ responsePart)) whole
 
   module _ {k : ℕ} {p : List ℕ} (x : Laid at frameWord o p k) where
-    after-word : Room k (mainPart ++ ((tab ∷ []) ++ responsePart)) p
-    after-word = room-next frameWord (mainPart ++ ((tab ∷ []) ++ responsePart)) x whole
+    after-word : Space k (mainPart ++ ((tab ∷ []) ++ responsePart)) p
+    after-word = space-next frameWord (mainPart ++ ((tab ∷ []) ++ responsePart)) x whole
 
-    pub frame-2 : Room k mainPart p
-    frame-2 = room-first mainPart ((tab ∷ []) ++ responsePart) after-word
+    pub frame-2 : Space k mainPart p
+    frame-2 = space-first mainPart ((tab ∷ []) ++ responsePart) after-word
 
     module _ {j : ℕ} {q : List ℕ} (y : Laid k mainPart p q j) where
-      after-main : Room j ((tab ∷ []) ++ responsePart) q
-      after-main = room-next mainPart ((tab ∷ []) ++ responsePart) y after-word
+      after-main : Space j ((tab ∷ []) ++ responsePart) q
+      after-main = space-next mainPart ((tab ∷ []) ++ responsePart) y after-word
 
-      pub frame-3 : Room j (tab ∷ []) q
-      frame-3 = room-first (tab ∷ []) responsePart after-main
+      pub frame-3 : Space j (tab ∷ []) q
+      frame-3 = space-first (tab ∷ []) responsePart after-main
 
       module _ {i : ℕ} {r : List ℕ} (z : Laid j (tab ∷ []) q r i) where
-        pub frame-4 : Room i responsePart r
-        frame-4 = room-next (tab ∷ []) responsePart z after-main
+        pub frame-4 : Space i responsePart r
+        frame-4 = space-next (tab ∷ []) responsePart z after-main
 
         pub frame-laid : {l : ℕ} {t : List ℕ} → Laid i responsePart r t l → Laid at (frameEnd n kind s) o t l
         unfolding frameEnd
@@ -121,23 +121,23 @@ module _ {at : ℕ} {o : List ℕ} (n : Lengths) (kind : Response) (s : List ℕ
 abbrev noParts : List ℕ
 noParts = tab ∷ w-none ++ (tab ∷ w-none ++ (newline ∷ []))
 
-module _ {at : ℕ} {o : List ℕ} (f : Fault) (h : Room at (faultEnd f) o) where
-  pub fault-1 : Room at w-fault o
+module _ {at : ℕ} {o : List ℕ} (f : Fault) (h : Space at (faultEnd f) o) where
+  pub fault-1 : Space at w-fault o
   unfolding faultEnd
-  fault-1 = room-first w-fault (decimal (faultNumber f) ++ noParts) h
+  fault-1 = space-first w-fault (decimal (faultNumber f) ++ noParts) h
 
   module _ {k : ℕ} {p : List ℕ} (x : Laid at w-fault o p k) where
-    after-fault : Room k (decimal (faultNumber f) ++ noParts) p
+    after-fault : Space k (decimal (faultNumber f) ++ noParts) p
     unfolding faultEnd
-    after-fault = room-next w-fault (decimal (faultNumber f) ++ noParts) x h
+    after-fault = space-next w-fault (decimal (faultNumber f) ++ noParts) x h
 
     module _ {n : ℕ} (e : n ≡ faultNumber f) where
-      pub fault-2 : Room k (decimal n) p
-      fault-2 = room-first (decimal n) noParts (rw e after-fault)
+      pub fault-2 : Space k (decimal n) p
+      fault-2 = space-first (decimal n) noParts (rw e after-fault)
 
       module _ {j : ℕ} {q : List ℕ} (y : Laid k (decimal n) p q j) where
-        pub fault-3 : Room j noParts q
-        fault-3 = room-next (decimal n) noParts y (rw e after-fault)
+        pub fault-3 : Space j noParts q
+        fault-3 = space-next (decimal n) noParts y (rw e after-fault)
 
         pub fault-laid : {i : ℕ} {r : List ℕ} → Laid j noParts q r i → Laid at (faultEnd f) o r i
         unfolding faultEnd
@@ -146,8 +146,8 @@ module _ {at : ℕ} {o : List ℕ} (f : Fault) (h : Room at (faultEnd f) o) wher
 -- ## An answer
 
 module _ {at : ℕ} {o : List ℕ} {r x : Reading} (e : r ≡ x) (s : List ℕ) where
-  pub end-room : Room at (endOf r s) o → Room at (endOf x s) o
-  end-room h = rw e at h
+  pub end-space : Space at (endOf r s) o → Space at (endOf x s) o
+  end-space h = rw e at h
 
   pub end-laid : {k : ℕ} {p : List ℕ} → Laid at (endOf x s) o p k → Laid at (endOf r s) o p k
   end-laid l = rw e l
@@ -157,33 +157,33 @@ frame-holds s e h = rw e at h
 
 -- ## A line
 
-module _ {at : ℕ} {o : List ℕ} (customer vehicle : List ℕ) (r : Reading) (s : List ℕ) (h : Room at (lineIn customer vehicle r s) o) where
+module _ {at : ℕ} {o : List ℕ} (customer vehicle : List ℕ) (r : Reading) (s : List ℕ) (h : Space at (lineIn customer vehicle r s) o) where
   abbrev afterVehicle : List ℕ
   afterVehicle = tabbed (decimal (placeOf r)) ++ endOf r s
 
-  pub line-1 : Room at (tabbed customer) o
+  pub line-1 : Space at (tabbed customer) o
   unfolding lineIn
-  line-1 = room-first (tabbed customer) (tabbed vehicle ++ afterVehicle) h
+  line-1 = space-first (tabbed customer) (tabbed vehicle ++ afterVehicle) h
 
   module _ {k : ℕ} {p : List ℕ} (x : Laid at (tabbed customer) o p k) where
-    after-customer : Room k (tabbed vehicle ++ afterVehicle) p
+    after-customer : Space k (tabbed vehicle ++ afterVehicle) p
     unfolding lineIn
-    after-customer = room-next (tabbed customer) (tabbed vehicle ++ afterVehicle) x h
+    after-customer = space-next (tabbed customer) (tabbed vehicle ++ afterVehicle) x h
 
-    pub line-2 : Room k (tabbed vehicle) p
-    line-2 = room-first (tabbed vehicle) afterVehicle after-customer
+    pub line-2 : Space k (tabbed vehicle) p
+    line-2 = space-first (tabbed vehicle) afterVehicle after-customer
 
     module _ {j : ℕ} {q : List ℕ} (y : Laid k (tabbed vehicle) p q j) where
-      after-vehicle : Room j afterVehicle q
-      after-vehicle = room-next (tabbed vehicle) afterVehicle y after-customer
+      after-vehicle : Space j afterVehicle q
+      after-vehicle = space-next (tabbed vehicle) afterVehicle y after-customer
 
       module _ {n : ℕ} (e : n ≡ placeOf r) where
-        pub line-3 : Room j (tabbed (decimal n)) q
-        line-3 = rw e (room-first (tabbed (decimal (placeOf r))) (endOf r s) after-vehicle)
+        pub line-3 : Space j (tabbed (decimal n)) q
+        line-3 = rw e (space-first (tabbed (decimal (placeOf r))) (endOf r s) after-vehicle)
 
         module _ {i : ℕ} {t : List ℕ} (z : Laid j (tabbed (decimal n)) q t i) where
-          pub line-4 : Room i (endOf r s) t
-          line-4 = room-next (tabbed (decimal (placeOf r))) (endOf r s) (rw e at z) after-vehicle
+          pub line-4 : Space i (endOf r s) t
+          line-4 = space-next (tabbed (decimal (placeOf r))) (endOf r s) (rw e at z) after-vehicle
 
           pub line-laid : {l : ℕ} {u : List ℕ} → Laid i (endOf r s) t u l → Laid at (lineIn customer vehicle r s) o u l
           unfolding lineIn
@@ -194,17 +194,17 @@ module _ {at : ℕ} {o : List ℕ} (customer vehicle : List ℕ) (r : Reading) (
 abbrev refusedWord : List ℕ
 refusedWord = w-refused ++ (tab ∷ [])
 
-module _ {at : ℕ} {o : List ℕ} (n : ℕ) (h : Room at (refusal n) o) where
-  pub refused-1 : Room at refusedWord o
-  refused-1 = room-first refusedWord (decimal n ++ (newline ∷ [])) h
+module _ {at : ℕ} {o : List ℕ} (n : ℕ) (h : Space at (refusal n) o) where
+  pub refused-1 : Space at refusedWord o
+  refused-1 = space-first refusedWord (decimal n ++ (newline ∷ [])) h
 
   module _ {k : ℕ} {p : List ℕ} (x : Laid at refusedWord o p k) where
-    pub refused-2 : Room k (decimal n) p
-    refused-2 = room-first (decimal n) (newline ∷ []) (room-next refusedWord (decimal n ++ (newline ∷ [])) x h)
+    pub refused-2 : Space k (decimal n) p
+    refused-2 = space-first (decimal n) (newline ∷ []) (space-next refusedWord (decimal n ++ (newline ∷ [])) x h)
 
     module _ {j : ℕ} {q : List ℕ} (y : Laid k (decimal n) p q j) where
-      pub refused-3 : Room j (newline ∷ []) q
-      refused-3 = room-next (decimal n) (newline ∷ []) y (room-next refusedWord (decimal n ++ (newline ∷ [])) x h)
+      pub refused-3 : Space j (newline ∷ []) q
+      refused-3 = space-next (decimal n) (newline ∷ []) y (space-next refusedWord (decimal n ++ (newline ∷ [])) x h)
 
       pub refused-laid : {i : ℕ} {r : List ℕ} → Laid j (newline ∷ []) q r i → Laid at (refusal n) o r i
       refused-laid z = then x (then y z)

@@ -16,7 +16,7 @@ use Rattle.label.specs.Labels.{every, labelByte, isLabel}
 use Rattle.desk_text.specs.Grammar.{pieces, same, digit, spells, isWidth}
 use Rattle.desk_text.specs.Input.{lines, own, iv, ownLine, ivLine, ivAt, badFrom, widthsFrom}
 use Rattle.desk_text.specs.Numerals.{decimalIn, decimal, hexDigit, hex}
-use Rattle.desk_text.specs.Report.{w-frame, w-quiet, w-none, lineOf, header, rowOf, rowsOf, report, deskOf}
+use Rattle.desk_text.specs.Report.{w-frame, w-quiet, w-none, lineOf, header, answerText, answersText, report, deskOf}
 
 -- `c17`
 abbrev pub c17 : List ℕ
@@ -44,5 +44,5 @@ exampleText =
 
 -- The desk's text for the example's input is the example's output.
 pub example-worked : deskOf exampleInput ≡ exampleText
-unfolding deskOf report rowsOf rowOf lines ownLine ivLine ivAt badFrom widthsFrom pieces every same labelByte isLabel digit spells isWidth decimalIn hexDigit hex answersIn answersBy readOn opening decides stands fault checksOut bytes first symbolAt bitsFrom classOf checkOf registerFrom stepOf eightShifts shift
+unfolding deskOf report answersText answerText lines ownLine ivLine ivAt badFrom widthsFrom pieces every same labelByte isLabel digit spells isWidth decimalIn hexDigit hex answersIn answersBy readOn opening decides stands fault checksOut bytes first symbolAt bitsFrom classOf checkOf registerFrom stepOf eightShifts shift
 example-worked = refl

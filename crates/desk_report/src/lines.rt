@@ -2,9 +2,9 @@
 ghost use mathlib.Core.Path.{_≡_};
 ghost use Prim.Native.Nat.{_≤_};
 ghost use lib.ListN.{length};
-ghost use Rattle.desk_text.specs.Report.{rowOf};
-ghost use Rattle.desk_report.specs.Laying.{Laid, Room, endOf, Holds, placeOf, lineIn};
-ghost use Rattle.desk_report.specs.Reporting.{answerAt, rowsFrom, Stepped};
+ghost use Rattle.desk_text.specs.Report.{answerText};
+ghost use Rattle.desk_report.specs.Laying.{Laid, Space, endOf, Holds, placeOf, lineIn};
+ghost use Rattle.desk_report.specs.Reporting.{answerAt, textFrom, Stepped};
 use crate::fields::put;
 use crate::fields::put_fault;
 use crate::fields::put_field;
@@ -18,7 +18,7 @@ use units::Place;
 // The kind and the parts of an answer; a frame's bytes stand first in s.
 fn put_end(reading: Reading, s: &[u8], lent: &mut [u8], at: usize) -> usize
     requires { ⌜ Holds reading (now s) ⌝ }
-    requires { ⌜ Room at (endOf reading (now s)) (now lent) ⌝ }
+    requires { ⌜ Space at (endOf reading (now s)) (now lent) ⌝ }
     ensures { λ r. ⌜ Laid at (endOf reading (now (s .entry))) (now (lent .entry)) (now (lent .exit)) r ⌝ }
 {
     match reading {
@@ -56,7 +56,7 @@ fn place(reading: Reading) -> usize
 }
 
 // The line of an answer; a frame's bytes stand first in s.
-fn put_row(
+fn put_line(
     customer: &[u8],
     vehicle: &[u8],
     reading: Reading,
@@ -65,7 +65,7 @@ fn put_row(
     at: usize,
 ) -> usize
     requires { ⌜ Holds reading (now s) ⌝ }
-    requires { ⌜ Room at (lineIn (now customer) (now vehicle) reading (now s)) (now lent) ⌝ }
+    requires { ⌜ Space at (lineIn (now customer) (now vehicle) reading (now s)) (now lent) ⌝ }
     ensures { λ r. ⌜ Laid at (lineIn (now (customer .entry)) (now (vehicle .entry)) reading (now (s .entry))) (now (lent .entry)) (now (lent .exit)) r ⌝ }
 {
     let k1 = put_field(customer, lent, at);
@@ -90,26 +90,26 @@ fn put_answer(
     at: usize,
 ) -> Step
     requires { ⌜ from ≤ length (now widths) ⌝ }
-    requires { ⌜ Room at (rowOf (now customer) (now vehicle) (answerAt (now widths) from)) (now lent) ⌝ }
+    requires { ⌜ Space at (answerText (now customer) (now vehicle) (answerAt (now widths) from)) (now lent) ⌝ }
     ensures { λ r. ⌜ Stepped (now (customer .entry)) (now (vehicle .entry)) (now (widths .entry)) from at (now (lent .entry)) (now (lent .exit)) r ⌝ }
 {
     let mut s = [0u8; MOST_BYTES];
     let reading = frame_read::read(widths, Place(from), &mut s);
-    let end = put_row(customer, vehicle, reading, &s, lent, at);
+    let end = put_line(customer, vehicle, reading, &s, lent, at);
     let next = desk_answer::after(reading);
     Step { end, next }
 }
 
 // A line for each answer from the recording's start on, until quiet or unfinished.
-pub(crate) fn put_rows(
+pub(crate) fn put_lines(
     customer: &[u8],
     vehicle: &[u8],
     widths: &[u32],
     lent: &mut [u8],
     at: usize,
 ) -> usize
-    requires { ⌜ Room at (rowsFrom (now customer) (now vehicle) (now widths) 0) (now lent) ⌝ }
-    ensures { λ r. ⌜ Laid at (rowsFrom (now (customer .entry)) (now (vehicle .entry)) (now (widths .entry)) 0) (now (lent .entry)) (now (lent .exit)) r ⌝ }
+    requires { ⌜ Space at (textFrom (now customer) (now vehicle) (now widths) 0) (now lent) ⌝ }
+    ensures { λ r. ⌜ Laid at (textFrom (now (customer .entry)) (now (vehicle .entry)) (now (widths .entry)) 0) (now (lent .entry)) (now (lent .exit)) r ⌝ }
 {
     let mut k = at;
     let mut p = 0;

@@ -2,8 +2,8 @@
 use mathlib.Core.Path.{sym, ap}
 use Rattle.desk_report.specs.Laying.{placeOf}
 use borrow.Author.Needs.{needs}
-use Rattle.desk_report.proofs.rows.place.Statement.{statement}
-use Rattle.desk_report.proofs.rows.place.Tie as tie
+use Rattle.desk_report.proofs.lines.place.Statement.{statement}
+use Rattle.desk_report.proofs.lines.place.Tie as tie
 
 enum-known-reading : tie.Need-enum-known-reading
 enum-known-reading c = search needs
