@@ -1,11 +1,9 @@
 -- Definitions.
 -- Document 01's check byte: "polynomial x^8+x^4+x^3+x^2+1, register first all ones, high bit first, result inverted".
 -- Nothing here asks that a number is a byte: the register stays one whatever is fed.
-use mathlib.Core.Bool.{Bool}
 use mathlib.Core.List.{List, [], _∷_, _++_}
 use Prim.Native.Nat.{ℕ, _*_, _-_, _/_, _%_, _<_}
 use lib.Bits.{bitXor}
-use lib.Dec.{eqb}
 
 -- the polynomial below its x^8: x^4, x^3, x^2 and 1
 abbrev pub polynomial : ℕ
@@ -53,10 +51,6 @@ checkOf bs = checkFrom allOnes bs
 -- bytes with their check byte after them, as they go out on the line
 abbrev pub withCheck : List ℕ → List ℕ
 withCheck bs = bs ++ (checkOf bs ∷ [])
-
--- the register over bytes that end with a check byte "ends at 0xC4"
-unfoldable pub endsRight : List ℕ → Bool
-endsRight bs = eqb (registerOf bs) residue
 
 -- every number of the list is a byte, as every element of a slice of u8 is
 abbrev pub Bytes : List ℕ → Type 0

@@ -1,7 +1,7 @@
 -- Laws.
 -- Over any bytes and their check byte together the register ends at 0xC4, and over no others.
 use mathlib.Core.Path.{_≡_, refl, ap, _∙_}
-use mathlib.Core.Bool.{Bool, true}
+use mathlib.Core.Bool.{Bool}
 use mathlib.Core.List.{List, [], _∷_, _++_}
 use Prim.Native.Nat.{ℕ, _+_, _*_, _-_, _/_, _%_, _≤_, _<_}
 use native.Mathlib.Nat.{mod-lt}
@@ -11,9 +11,8 @@ use lib.Bits.{bitXor, xor-lt}
 use lib.Dec.{eqb, eqb→eq}
 use lib.ListN.{length, getD, drop}
 use lib.Seq.{drop-cons, drop-length}
-use borrow.Author.Tests.{eq-eqb}
 use Rattle.laws.specs.Each.{each}
-use Rattle.checkbyte.specs.Register.{shift, eightShifts, stepOf, registerFrom, registerOf, checkOf, withCheck, endsRight, allOnes, residue, polynomial}
+use Rattle.checkbyte.specs.Register.{shift, eightShifts, stepOf, registerFrom, registerOf, checkOf, withCheck, allOnes, residue, polynomial}
 
 -- A shift of a byte, with no number in it that leaves a byte's range on the way.
 pub shift-byte : (r : ℕ) → r < 256 → bitXor ((r % 128) * 2) ((r / 128) * polynomial) ≡ shift r
@@ -67,11 +66,6 @@ pub residue-is : (bs : List ℕ) → registerOf (withCheck bs) ≡ residue
 unfolding registerFrom checkOf
 residue-is bs =
     register-append allOnes bs (checkOf bs ∷ []) ∙ inverse (registerOf bs) (register-lt allOnes bs (omega arith))
-
--- So the test for a right check byte says true of every message with its check byte.
-pub ends-right : (bs : List ℕ) → endsRight (withCheck bs) ≡ true
-unfolding endsRight
-ends-right bs = eq-eqb (registerOf (withCheck bs)) residue (residue-is bs)
 
 -- One byte more, for a loop over them.
 pub register-at : (r : ℕ) (bs : List ℕ) (i : ℕ) → i < length bs → registerFrom (stepOf r (getD bs i 0)) (drop (i + 1) bs) ≡ registerFrom r (drop i bs)

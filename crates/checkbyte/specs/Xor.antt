@@ -15,7 +15,8 @@ digit (suc zero) (suc y) zero hx hy hz e = omega arith
 digit (suc zero) (suc y) (suc z) hx hy hz e = omega arith
 digit (suc (suc x)) y z hx hy hz e = absurd (omega arith)
 
-differ-lt : (x y : ℕ) → x < 2 → y < 2 → differ x y < 2
+-- Two digits added without carry are a digit.
+pub differ-lt : (x y : ℕ) → x < 2 → y < 2 → differ x y < 2
 differ-lt zero y hx hy = hy
 differ-lt (suc zero) zero hx hy = omega arith
 differ-lt (suc zero) (suc y) hx hy = omega arith
