@@ -7,7 +7,7 @@ ghost use Rattle.live.specs.Feeding.{started, fedOf, lentOf, askedOf};
 ghost use Rattle.c_live_answers.specs.Answers.{heardAs, askedAs};
 use c_live_answers::AskedAnswer;
 use c_live_answers::HeardAnswer;
-use live::Live;
+use live_held::Live;
 use units::Micros;
 
 // A live reader that has heard nothing.

@@ -3,9 +3,9 @@
 use Prim.Native.Nat.{ℕ}
 use mathlib.Core.List.{List, [], _∷_}
 use Rattle.frame.specs.ReadPromise.{Told}
-use Rattle.live.specs.declared.Heard.{Heard}
+use Rattle.live_answer.specs.declared.Heard.{Heard}
 use Rattle.live.specs.declared.Asked.{Asked}
-use Rattle.live.specs.Answers.{toldBy, askedTold}
+use Rattle.live.specs.Promise.{toldBy, askedTold}
 use Rattle.c_live_answers.specs.declared.HeardAnswer.{HeardAnswer}
 use Rattle.c_live_answers.specs.declared.AskedAnswer.{AskedAnswer}
 use Rattle.frame_numbers.specs.Numbers.{kindNumber}

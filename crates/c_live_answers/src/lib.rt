@@ -7,7 +7,7 @@ use frame_numbers::QUIET;
 use frame_numbers::UNFINISHED;
 use frame_numbers::WITHOUT;
 use live::Asked;
-use live::Heard;
+use live_answer::Heard;
 
 // What an interval answers. A value that the answer does not have is 0.
 #[repr(C)]

@@ -1,11 +1,9 @@
 -- Laws.
 -- Whatever a reader's bytes are, also such as no call has left there: a frame that it tells of has at most twelve bytes.
 use Prim.Native.Nat.{ℕ, _+_, _-_, _≤_}
-use mathlib.Core.Path.{_≡_, refl}
 use mathlib.Core.Bool.{Bool, true, false, cond, not}
 use native.Mathlib.Omega.{arith}
-use lib.Dec.{eqb, leb, ltb}
-use borrow.Author.Tests.{leb-true}
+use lib.Dec.{eqb, ltb}
 use Rattle.frame.specs.Faults.{mostBytes}
 use Rattle.frame_machine.specs.declared.Phase.{Phase}
 use Rattle.frame_machine.specs.declared.Phase.the-variants.{Sof, Main, Normalization, Plain, Checked}
@@ -13,12 +11,15 @@ use Rattle.frame_machine.specs.declared.Machine.{Machine}
 use Rattle.frame_machine.specs.declared.Event.{Event}
 use Rattle.frame_machine.specs.declared.Event.the-variants.{Going, Byte, Closed, Faulty as FaultyEvent}
 use Rattle.frame_machine.specs.Parts.{partsIn, partsOf}
-use Rattle.live.specs.declared.Inside.{Inside}
-use Rattle.live.specs.declared.Live.{Live}
-use Rattle.live.specs.declared.Heard.{Heard}
-use Rattle.live.specs.declared.Heard.the-variants.{Nothing, Frame, Faulty, PastPlaces, FewLentBytes}
-use Rattle.live.specs.Feeding.{least, heldBy, fedBy, stepAt, endsAt, waiting, takenOf, refusedBy, fedOf}
-use Rattle.live.specs.Held.{noFrame}
+use Rattle.live_held.specs.declared.Inside.{Inside}
+use Rattle.live_held.specs.declared.Live.{Live}
+use Rattle.live_answer.specs.declared.Heard.{Heard}
+use Rattle.live_answer.specs.declared.Heard.the-variants.{Nothing, Frame, Faulty, PastPlaces, FewLentBytes}
+use Rattle.live_held.specs.HeldLaws.{held-few, held-within}
+use Rattle.live_held.specs.Reader.{heldBy}
+use Rattle.live_taken.specs.Taken.{fedBy, stepAt, endsAt, waiting}
+use Rattle.live.specs.Feeding.{takenOf, refusedBy, fedOf}
+use Rattle.live_held.specs.Held.{noFrame}
 
 -- how many bytes an answer tells of
 abbrev pub bytesTold : Heard → ℕ
@@ -28,13 +29,6 @@ bytesTold (Faulty fault next) = 0
 bytesTold PastPlaces = 0
 bytesTold FewLentBytes = 0
 
-at-most : (a b : ℕ) → least a b ≤ b
-at-most a b = go (leb a b) refl
-  where
-    go : (t : Bool) → leb a b ≡ t → cond t a b ≤ b
-    go true e = leb-true a b e
-    go false e = omega arith
-
 in-parts : (p : Phase) (m : Machine) → m .began ≤ m .count → partsIn p m .lengths .main + partsIn p m .lengths .response ≤ m .count
 in-parts Sof m h = omega arith
 in-parts Main m h = omega arith
@@ -42,17 +36,8 @@ in-parts Normalization m h = omega arith
 in-parts Plain m h = omega arith
 in-parts Checked m h = omega arith
 
--- a reader holds no more bytes than a frame has
-pub held-few : (i : Inside) → heldBy i .count ≤ mostBytes
-unfolding heldBy
-held-few i = at-most (i .count) mostBytes
-
 held-parts : (i : Inside) → partsOf (heldBy i) .lengths .main + partsOf (heldBy i) .lengths .response ≤ mostBytes
-unfolding heldBy
-held-parts i =
-    let few : least (i .count) mostBytes ≤ mostBytes = at-most (i .count) mostBytes in
-    let within : least (i .began) (least (i .count) mostBytes) ≤ least (i .count) mostBytes = at-most (i .began) (least (i .count) mostBytes) in
-    omega (arith, few, in-parts (heldBy i .phase) (heldBy i) within)
+held-parts i = omega (arith, held-few i, in-parts (heldBy i .phase) (heldBy i) (held-within i))
 
 by-event : (e : Event) (v : Live) (m : Machine) (b : Bool) → bytesTold (fedBy e v m b .heard) ≤ mostBytes
 by-event Going v m b = omega arith

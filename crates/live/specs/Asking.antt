@@ -20,11 +20,11 @@ use Rattle.frame.specs.ReadPromise.{tells}
 use Rattle.frame.specs.ReadStated.{goesOn}
 use Rattle.frame_machine.specs.declared.Machine.{Machine}
 use Rattle.frame_machine.specs.Holding.{phaseOf, holding}
-use Rattle.live.specs.declared.Inside.{Inside}
-use Rattle.live.specs.declared.Live.{Live}
+use Rattle.live_held.specs.declared.Inside.{Inside}
+use Rattle.live_held.specs.declared.Live.{Live}
 use Rattle.live.specs.Feeding.{askedOf}
-use Rattle.live.specs.Held.{phaseNumber, insideOf, outside}
-use Rattle.live.specs.Answers.{askedTold}
+use Rattle.live_held.specs.Held.{phaseNumber, insideOf, outside}
+use Rattle.live.specs.Promise.{askedTold}
 use Rattle.live.specs.Hearing.{Rest, seeks, hears, Hears}
 use Rattle.live.specs.Taking.{reached-in}
 

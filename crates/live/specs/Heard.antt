@@ -10,7 +10,7 @@ use lib.ListN.{length, getD, replicate, length-append, List·getD-append}
 use lib.Seq.{getD-append-seam}
 use borrow.Author.Tests.{le-ltb, eq-eqb}
 use Rattle.symbol.specs.Classes.{classOf, endOf}
-use Rattle.frame.specs.Line.{activeAt, symbolAt, single, endAt, first, opening}
+use Rattle.frame.specs.Line.{activeAt, symbolAt, single, endAt, nowhere, first, opening}
 use Rattle.frame.specs.Faults.{mostBytes}
 use Rattle.frame.specs.Reading.{Outcome}
 use Rattle.frame.specs.ShownLaws.{end-width}
@@ -21,10 +21,11 @@ use Rattle.frame_machine.specs.declared.Phase.the-variants.{Sof, Main, Normaliz
 use Rattle.frame_machine.specs.declared.Machine.{Machine}
 use Rattle.frame_machine.specs.Steps.{signFor}
 use Rattle.frame_machine.specs.Meaning.{meaningOf, sign-means}
-use Rattle.live.specs.declared.Inside.{Inside}
-use Rattle.live.specs.declared.Live.{Live}
-use Rattle.live.specs.Feeding.{started, endsAt, takenOf, fedOf, lentOf}
-use Rattle.live.specs.Held.{lastPlace, noFrame, phaseNumber, insideOf, outside}
+use Rattle.live_held.specs.declared.Inside.{Inside}
+use Rattle.live_held.specs.declared.Live.{Live}
+use Rattle.live_taken.specs.Taken.{endsAt, waiting}
+use Rattle.live.specs.Feeding.{started, takenOf, fedOf, lentOf}
+use Rattle.live_held.specs.Held.{lastPlace, noFrame, phaseNumber, insideOf, outside}
 use Rattle.live.specs.Hearing.{Counts, room, all-heard, Rest, seeks, hears, Hears, Takes, decides-nothing}
 use Rattle.live.specs.Opening.{begins-hears}
 use Rattle.live.specs.Taking.{reached-in, reached-on, none-still, takes-next}
@@ -79,20 +80,26 @@ module _ (ws : List ℕ) (w : ℕ) where
   end-here n e = end-width (on ws w) (length ws) ∙ rw (e, here)
 
 module _ (ws : List ℕ) (xs : List Outcome) (v : Live) (h : Hears (single ws) xs v) (w : ℕ) where
+  -- An interval before a frame decides nothing, and opens one where it is an end.
+  pub waits : (entry : List ℕ) → v .places .next ≡ length ws → length ws ≤ lastPlace → (kept : List ℕ) → v .inside ≡ outside kept → mostBytes ≤ length kept
+      → opening (single ws) (v .places .from) ≡ nowhere → Takes (single ws) (single (on ws w)) xs entry entry (waiting v w)
+  waits entry at-k fits kept is has-room none =
+      decides-nothing refl refl
+      (begins-hears (single (on ws w)) (length ws) (long ws w) v at-k (rw (kept-outside kept is) has-room) xs (v .places .from) fits (reached-in (single ws) (h .reached))
+      (none-still (single ws) (single (on ws w)) (long ws w) (same ws w) (v .places .from) none)
+      (endsAt v w) (end-here ws w (v .places .next) at-k) (reached-on (single ws) (single (on ws w)) (long ws w) (same ws w) (h .reached)))
+
   -- with bytes enough lent, and a place for the interval
   taken : (entry : List ℕ) → v .places .full ≡ 0 → v .places .next ≡ length ws → length ws ≤ lastPlace → mostBytes ≤ length entry
       → Rest (single ws) (v .places) (v .inside) → Takes (single ws) (single (on ws w)) xs entry (lentOf v w entry) (fedOf v w (length entry))
   unfolding fedOf lentOf takenOf
   taken entry none-full at-k fits enough (seeks kept is has-room none) =
       rw (eq-eqb (v .places .full) 0 none-full, le-ltb (length entry) mostBytes enough, out-of-frame kept is)
-      (decides-nothing refl refl
-      (begins-hears (single (on ws w)) (length ws) (long ws w) v at-k (rw (kept-outside kept is) has-room) xs (v .places .from) fits (reached-in (single ws) (h .reached))
-      (none-still (single ws) (single (on ws w)) (long ws w) (same ws w) (v .places .from) none)
-      (endsAt v w) (end-here ws w (v .places .next) at-k) (reached-on (single ws) (single (on ws w)) (long ws w) (same ws w) (h .reached))))
+      (waits entry at-k fits kept is has-room none)
   taken entry none-full at-k fits enough (hears m kept is opens none stood) =
       rw (eq-eqb (v .places .full) 0 none-full, le-ltb (length entry) mostBytes enough, in-frame m kept is)
       (takes-next (single ws) (single (on ws w)) (long ws w) (same ws w) v xs (h .reached) at-k fits m kept is opens none stood w
-      (shown-here ws w (v .places .next) at-k) (end-here ws w (v .places .next) at-k) entry)
+      (shown-here ws w (v .places .next) at-k) (end-here ws w (v .places .next) at-k) entry enough)
 
   -- Where the interval has a place and twelve bytes are lent it is taken.
   pub takes-it : length ws ≤ lastPlace → (entry : List ℕ) → mostBytes ≤ length entry

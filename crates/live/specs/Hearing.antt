@@ -15,12 +15,12 @@ use Rattle.frame.specs.ReadStated.{goesOn}
 use Rattle.frame.specs.ReadingOn.{nextOf, onLine, Reaches}
 use Rattle.frame_machine.specs.declared.Machine.{Machine}
 use Rattle.frame_machine.specs.Stated.{Keeping}
-use Rattle.live.specs.declared.Places.{Places}
-use Rattle.live.specs.declared.Inside.{Inside}
-use Rattle.live.specs.declared.Live.{Live}
-use Rattle.live.specs.declared.Fed.{Fed}
-use Rattle.live.specs.Held.{lastPlace, allHeard, outside, insideOf}
-use Rattle.live.specs.Answers.{toldBy}
+use Rattle.live_held.specs.declared.Places.{Places}
+use Rattle.live_held.specs.declared.Inside.{Inside}
+use Rattle.live_held.specs.declared.Live.{Live}
+use Rattle.live_answer.specs.declared.Fed.{Fed}
+use Rattle.live_held.specs.Held.{lastPlace, allHeard, outside, insideOf}
+use Rattle.live.specs.Promise.{toldBy}
 
 -- The frames and faults of a line, each read from the next position of the one before, the first from 0, as far as they are
 -- told; and the position from which reading goes on.

@@ -14,13 +14,13 @@ use Rattle.frame.specs.Line.{single}
 use Rattle.frame.specs.Faults.{mostBytes}
 use Rattle.frame.specs.Reading.{Outcome}
 use Rattle.frame.specs.ReadingOn.{ReadsOn}
-use Rattle.live.specs.declared.Live.{Live}
+use Rattle.live_held.specs.declared.Live.{Live}
 use Rattle.live.specs.Feeding.{started, fedOf}
-use Rattle.live.specs.Held.{lastPlace}
+use Rattle.live_held.specs.Held.{lastPlace}
 use Rattle.live.specs.Hearing.{Counts, room, all-heard, Hears, Takes, decides-nothing, decides-one}
 use Rattle.live.specs.Heard.{starts, takes-it}
-use Rattle.live.specs.Refused.{refused-as, refused-leaves, hear-exactly}
-use Rattle.live.specs.Answers.{refusal, hearRules, saysFull}
+use Rattle.live.specs.ExactlyWhen.{refused-as, refused-leaves, hear-exactly}
+use Rattle.live.specs.Promise.{refusal, hearRules, saysFull}
 use Rattle.live.specs.Shown.{Delivered, recording, Enough, none, also, afterOne, afterAll, showsAll, reads, showsAsked, LiveCall, hearing, asking, afterCalls, isTaken, takenIn}
 use Rattle.live.specs.Whole.{live-whole}
 

@@ -1,13 +1,12 @@
 -- Definitions.
-pub mod Answers
+pub mod Promise
 pub mod Hearing
 pub mod Shown
-pub mod Held
 -- Laws.
 pub mod Opening
 pub mod Taking
 pub mod Heard
-pub mod Refused
+pub mod ExactlyWhen
 pub mod Asking
 pub mod Whole
 pub mod History

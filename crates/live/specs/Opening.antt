@@ -1,6 +1,6 @@
 -- Laws.
--- The reader's own state: what the machine gets back of it, how places are counted, and how a frame is begun.
-use Prim.Native.Nat.{ℕ, _+_, _^_, _≤_, _<_}
+-- How places are counted, and how a frame is begun.
+use Prim.Native.Nat.{ℕ, _+_, _≤_, _<_}
 use mathlib.Core.Path.{_≡_, refl, sym, ap, subst, _∙_}
 use mathlib.Core.Bool.{Bool, true, false}
 use mathlib.Core.List.{List}
@@ -9,42 +9,21 @@ use native.Mathlib.Omega.{arith}
 use native.Mathlib.Nat.{eq-or-lt-of-le}
 use lib.Dec.{eqb}
 use lib.ListN.{length}
-use borrow.Author.Tests.{le-leb, eq-eqb, ne-eqb}
+use borrow.Author.Tests.{eq-eqb, ne-eqb}
 use Rattle.frame.specs.Line.{Line, endAt, nowhere, at, firstIn, opening}
 use Rattle.frame.specs.Faults.{mostBytes}
 use Rattle.frame.specs.Reading.{Outcome, decides}
 use Rattle.frame.specs.FirstLaws.{first-next, first-empty}
-use Rattle.frame_machine.specs.declared.Phase.{Phase}
-use Rattle.frame_machine.specs.declared.Phase.the-variants.{Sof, Main, Normalization, Plain, Checked}
-use Rattle.frame_machine.specs.declared.Machine.{Machine}
 use Rattle.frame_machine.specs.Steps.{fresh}
 use Rattle.frame_machine.specs.Keeping.{keeping-first}
 use Rattle.frame_machine.specs.Stated.{Keeping}
-use Rattle.live.specs.declared.Places.{Places}
-use Rattle.live.specs.declared.Live.{Live}
-use Rattle.live.specs.Feeding.{phaseBy, heldBy, beginsAnew}
-use Rattle.live.specs.Held.{lastPlace, phaseNumber, insideOf, after}
+use Rattle.live_held.specs.declared.Places.{Places}
+use Rattle.live_held.specs.declared.Live.{Live}
+use Rattle.live_held.specs.Reader.{beginsAnew}
+use Rattle.live_held.specs.Held.{lastPlace, after}
 use Rattle.live.specs.Hearing.{ToldSoFar, Counts, room, all-heard, Rest, seeks, hears, Hears}
 
--- ## The machine
-
-phase-back : (p : Phase) → phaseBy (phaseNumber p) ≡ p
-phase-back Sof = refl
-phase-back Main = refl
-phase-back Normalization = refl
-phase-back Plain = refl
-phase-back Checked = refl
-
--- What was put into a reader comes back out of it.
-pub held-inside : (m : Machine) (kept : List ℕ) → m .count ≤ mostBytes → m .began ≤ m .count → heldBy (insideOf m kept) ≡ m
-unfolding heldBy insideOf
-held-inside m kept h k = rw (phase-back (m .phase), le-leb (m .count) mostBytes h, le-leb (m .began) (m .count) k)
-
 -- ## The places
-
--- The last place is the last that 64 bits count.
-pub last-is : lastPlace + 1 ≡ 2 ^ 64
-last-is = refl
 
 -- One interval more is counted, up to the last place.
 pub counts-on : (n : ℕ) (p : Places) (from opening : ℕ) → p .next ≡ n → n ≤ lastPlace → Counts (n + 1) (after p from opening)

@@ -7,9 +7,9 @@ use lib.ListN.{length, take}
 use Rattle.frame.specs.Faults.{mostBytes}
 use Rattle.frame.specs.Reading.{Outcome}
 use Rattle.frame.specs.ReadPromise.{Told, tells, written}
-use Rattle.live.specs.declared.Live.{Live}
+use Rattle.live_held.specs.declared.Live.{Live}
 use Rattle.live.specs.Feeding.{fedOf, lentOf, askedOf, started}
-use Rattle.live.specs.Answers.{toldBy, askedTold, refusal}
+use Rattle.live.specs.Promise.{toldBy, askedTold, refusal}
 use Rattle.live.specs.Hearing.{ToldSoFar, Takes}
 use Rattle.frame.specs.Line.{single}
 use mathlib.Core.Bool.{Bool, cond}

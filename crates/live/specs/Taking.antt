@@ -6,6 +6,7 @@ use mathlib.Core.Bool.{Bool, true, false, cond}
 use mathlib.Core.List.{List, [], _∷_, _++_}
 use native.Mathlib.Omega.{arith}
 use lib.ListN.{length, set}
+use Rattle.frame.specs.declared.Fault.{Fault}
 use Rattle.frame.specs.Line.{Line, endAt, Found, nowhere, at, firstIn, opening}
 use Rattle.frame.specs.Standing.{Standing, stands}
 use Rattle.frame.specs.Faults.{mostBytes}
@@ -28,11 +29,15 @@ use Rattle.frame_machine.specs.StepDoes.{some-fault}
 use Rattle.frame_machine.specs.Following.{held-few, held-began}
 use Rattle.frame_machine.specs.Keeping.{SaysKept, kept-by}
 use Rattle.frame_machine.specs.Stated.{Kept, Keeping}
-use Rattle.live.specs.declared.Live.{Live}
-use Rattle.live.specs.Feeding.{heldBy, beginsAnew, goesOn as goesOnWith, fedBy, signAt, stepAt, endsAt, laidBy}
-use Rattle.live.specs.Held.{lastPlace, insideOf, after}
+use Rattle.live_held.specs.declared.Live.{Live}
+use Rattle.live_held.specs.Reader.{heldBy, beginsAnew, goesOn as goesOnWith}
+use Rattle.live_answer.specs.Answers.{stillOpen, closedFrame, faultHeard}
+use Rattle.live_taken.specs.TakenLaws.{laid-closed}
+use Rattle.live_taken.specs.Taken.{fedBy, signAt, stepAt, endsAt, laidBy}
+use Rattle.live_held.specs.Held.{lastPlace, insideOf, after}
+use Rattle.live_held.specs.HeldLaws.{held-inside}
 use Rattle.live.specs.Hearing.{ToldSoFar, Counts, hears, Hears, Takes, decides-nothing, decides-one}
-use Rattle.live.specs.Opening.{held-inside, counts-on, begins-hears}
+use Rattle.live.specs.Opening.{counts-on, begins-hears}
 
 -- the position from which reading goes on lies in the recording
 pub reached-in : (l : Line) {p : ℕ} {xs : List Outcome} → ToldSoFar l p xs → p ≤ l .count
@@ -121,7 +126,7 @@ module _ (l l' : Line) (long : l' .count ≡ l .count + 1) (same : (j : ℕ) →
       opened-reading mostBytes l' (v .places .from) mostBytes o (omega arith) op ∙ ap (λ (x : Found). decidedBy x mostBytes l' o) found
 
   -- The frame goes on.
-  goes : (m' : Machine) (kept' : List ℕ) → decides mostBytes l' o k ≡ false → Keeping mostBytes l' o (k + 1) m' kept' → Hears l' xs (goesOnWith v m' kept')
+  pub goes : (m' : Machine) (kept' : List ℕ) → decides mostBytes l' o k ≡ false → Keeping mostBytes l' o (k + 1) m' kept' → Hears l' xs (goesOnWith v m' kept')
   unfolding goesOnWith after
   goes m' kept' d b =
       record {
@@ -140,31 +145,43 @@ module _ (l l' : Line) (long : l' .count ≡ l .count + 1) (same : (j : ℕ) →
       (first-empty (endAt l') (v .places .next) k (omega (arith, at-k))) b e
       (subst (λ (p : ℕ). ToldSoFar l' p (xs ++ (x ∷ []))) (n ∙ sym at-k) (subst (λ (y : Outcome). ToldSoFar l' (nextOf y) (xs ++ (y ∷ []))) r (one-more (reached-on l l' long same was) (rw r g))))
 
-  -- Each event of the machine does what Takes says.
-  takes : (entry : List ℕ) (e : Event) (m' : Machine) (b : Bool) → endAt l' k ≡ b → SaysKept e (m .count) mostBytes l' o k m' kept
-      → Takes l l' xs entry (laidBy e (v .inside) entry) (fedBy e v m' b)
-  takes entry Going m' b q s =
-      decides-nothing refl refl (goes m' (v .inside .kept) (s .0) (subst (λ (x : List ℕ). Keeping mostBytes l' o (k + 1) m' x) (sym kept-is) (s .1)))
-  takes entry (Byte x) m' b q s =
-      let e : set kept (m .count) x ≡ set (v .inside .kept) (heldBy (v .inside) .count) x = rw (held-is, kept-is) in
-      decides-nothing refl refl
-      (goes m' (set (v .inside .kept) (heldBy (v .inside) .count) x) (s .0) (subst (λ (x : List ℕ). Keeping mostBytes l' o (k + 1) m' x) e (s .1 .1)))
-  takes entry Closed m' b q s =
+  -- Each event of the machine does what Takes says: it decides nothing yet,
+  pub open-takes : (entry : List ℕ) (m' : Machine) (kept' : List ℕ) → decides mostBytes l' o k ≡ false → Keeping mostBytes l' o (k + 1) m' kept' → Takes l l' xs entry entry (stillOpen v m' kept')
+  open-takes entry m' kept' d b = decides-nothing refl refl (goes m' kept' d b)
+
+  -- or it closes the frame,
+  pub closed-takes : (entry : List ℕ) → mostBytes ≤ length entry → (m' : Machine) (b : Bool) → endAt l' k ≡ b → SaysKept Closed (m .count) mostBytes l' o k m' kept
+      → Takes l l' xs entry (laidBy Closed (v .inside) entry) (closedFrame v (heldBy (v .inside)) b)
+  closed-takes entry enough m' b q s =
       let st : Standing = stands l' o k in
       let x : Outcome = good (closed st o k) in
       let r : readOn mostBytes l' (v .places .from) mostBytes ≡ x = reads (s .0) ∙ rw (s .1 .0) (ap (λ (y : Standing). good (closed y o k)) (s .1 .1 .no-bit)) in
       decides-one x refl refl
       (rw (held-is, before .follows .holds, parts-held st, at-k))
-      (rw (held-is, before .follows .holds, count-of st, kept-is, before .keeps .first))
+      (laid-closed (v .inside) entry enough ∙ rw (held-is, before .follows .holds, count-of st, kept-is, before .keeps .first))
       (ends-with x refl refl r b q)
-  takes entry (Faulty f) m' b q s =
+
+  -- or it is at fault.
+  pub fault-takes : (entry : List ℕ) (f : Fault) (m' : Machine) (b : Bool) → endAt l' k ≡ b → SaysKept (Faulty f) (m .count) mostBytes l' o k m' kept
+      → Takes l l' xs entry entry (faultHeard v f b)
+  fault-takes entry f m' b q s =
       let x : Outcome = faulty (faultNumber f) k in
       let r : readOn mostBytes l' (v .places .from) mostBytes ≡ x = reads (s .0) ∙ rw (s .1, some-fault f) in
       decides-one x refl refl (rw at-k) refl (ends-with x refl refl r b q)
 
-  -- So does the next interval, whatever it shows.
-  pub takes-next : (w : ℕ) → meaningOf (signAt v w) ≡ l' .shows k → endAt l' k ≡ endsAt v w → (entry : List ℕ)
+  takes : (entry : List ℕ) → mostBytes ≤ length entry → (e : Event) (m' : Machine) (b : Bool) → endAt l' k ≡ b → SaysKept e (m .count) mostBytes l' o k m' kept
+      → Takes l l' xs entry (laidBy e (v .inside) entry) (fedBy e v m' b)
+  takes entry enough Going m' b q s =
+      open-takes entry m' (v .inside .kept) (s .0) (subst (λ (x : List ℕ). Keeping mostBytes l' o (k + 1) m' x) (sym kept-is) (s .1))
+  takes entry enough (Byte x) m' b q s =
+      let e : set kept (m .count) x ≡ set (v .inside .kept) (heldBy (v .inside) .count) x = rw (held-is, kept-is) in
+      open-takes entry m' (set (v .inside .kept) (heldBy (v .inside) .count) x) (s .0) (subst (λ (x : List ℕ). Keeping mostBytes l' o (k + 1) m' x) e (s .1 .1))
+  takes entry enough Closed m' b q s = closed-takes entry enough m' b q s
+  takes entry enough (Faulty f) m' b q s = fault-takes entry f m' b q s
+
+  -- So the next interval does, whatever it shows.
+  pub takes-next : (w : ℕ) → meaningOf (signAt v w) ≡ l' .shows k → endAt l' k ≡ endsAt v w → (entry : List ℕ) → mostBytes ≤ length entry
       → Takes l l' xs entry (laidBy (stepAt v w .event) (v .inside) entry) (fedBy (stepAt v w .event) v (stepAt v w .machine) (endsAt v w))
-  takes-next w shows-is end-is entry =
+  takes-next w shows-is end-is entry enough =
       let stepped : stepAt v w ≡ stepOf mostBytes m (signAt v w) = ap (λ (x : Machine). stepOf mostBytes x (signAt v w)) held-is in
-      takes entry (stepAt v w .event) (stepAt v w .machine) (endsAt v w) end-is (kept-by mostBytes l' o k m kept before (signAt v w) (stepAt v w) (stepAt v w .event) shows-is stepped refl)
+      takes entry enough (stepAt v w .event) (stepAt v w .machine) (endsAt v w) end-is (kept-by mostBytes l' o k m kept before (signAt v w) (stepAt v w) (stepAt v w .event) shows-is stepped refl)

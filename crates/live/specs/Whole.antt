@@ -16,10 +16,10 @@ use Rattle.frame.specs.Reading.{Outcome, good, quiet, unfinished, faulty, refus
 use Rattle.frame.specs.ReadPromise.{Told, tells, lentAfter}
 use Rattle.frame.specs.ReadStated.{goesOn}
 use Rattle.frame.specs.ReadingOn.{ReadsOn, last, reads-once, reads-through}
-use Rattle.live.specs.declared.Live.{Live}
+use Rattle.live_held.specs.declared.Live.{Live}
 use Rattle.live.specs.Feeding.{started, fedOf, lentOf, askedOf}
-use Rattle.live.specs.Held.{lastPlace}
-use Rattle.live.specs.Answers.{askedTold}
+use Rattle.live_held.specs.Held.{lastPlace}
+use Rattle.live.specs.Promise.{askedTold}
 use Rattle.live.specs.Hearing.{Hears, Takes, decides-nothing, decides-one}
 use Rattle.live.specs.Heard.{starts, takes-it}
 use Rattle.live.specs.Asking.{asks}

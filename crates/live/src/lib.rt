@@ -1,76 +1,20 @@
 // The live reader by value: one interval more, and what is asked of it between two intervals. What it answers is what
 // reading the whole recording answers; specs/Whole.antt says so of every reader that was started and heard intervals.
-mod held;
-mod taken;
-
 ghost use mathlib.Core.Path.{_≡_};
 ghost use lib.ListN.{length};
 ghost use Rattle.live.specs.Feeding.{started, refusedBy, fedOf, lentOf, askedOf};
-use frame::Fault;
-use frame::Lengths;
 use frame::MOST_BYTES;
-use frame::Response;
-use held::NO_FRAME;
-use held::SOF_NEXT;
-use held::outside;
-use taken::inside_frame;
-use taken::outside_frame;
+use live_answer::Fed;
+use live_answer::Heard;
+use live_held::Inside;
+use live_held::Live;
+use live_held::NO_FRAME;
+use live_held::Places;
+use live_held::SOF_NEXT;
+use live_taken::inside_frame;
+use live_taken::outside_frame;
 use units::LongPlace;
 use units::Micros;
-
-// The places of a live reader: the place of the next interval, the position from which reading goes on, and the opening of
-// the frame that is being heard. `full` is not 0 once the last place has been heard.
-#[repr(C)]
-pub struct Places {
-    pub next: u64,
-    pub from: u64,
-    pub opening: u64,
-    pub full: u64,
-}
-
-// The frame that is being heard: what the frame machine holds of it, and its bytes so far. Phase 0 is no frame: no end has
-// been heard since the position from which reading goes on.
-#[repr(C)]
-pub struct Inside {
-    pub count: usize,
-    pub began: usize,
-    pub kept: [u8; MOST_BYTES],
-    pub phase: u16,
-    pub partial: u8,
-    pub register: u8,
-}
-
-// A live reader, which its owner lends to each call. All of it is plain numbers, laid out as C has it and without padding:
-// whatever bytes it holds it is a reader, and one of zeros has heard nothing.
-#[repr(C)]
-pub struct Live {
-    pub places: Places,
-    pub inside: Inside,
-}
-
-// What an interval answers: nothing yet, the frame that it closes, the fault that it is at, or a refusal, which changes
-// nothing.
-pub enum Heard {
-    Nothing,
-    Frame {
-        lengths: Lengths,
-        response: Response,
-        opening: LongPlace,
-        next: LongPlace,
-    },
-    Faulty {
-        fault: Fault,
-        next: LongPlace,
-    },
-    PastPlaces,
-    FewLentBytes,
-}
-
-// The reader after an interval, and what the interval answers.
-pub struct Fed {
-    pub heard: Heard,
-    pub live: Live,
-}
 
 // What there is at the moment of asking: no frame has begun, or one is unfinished.
 pub enum Asked {
@@ -89,7 +33,14 @@ pub fn start() -> Live
             opening: 0,
             full: 0,
         },
-        inside: outside([0u8; MOST_BYTES]),
+        inside: Inside {
+            count: 0,
+            began: 0,
+            kept: [0u8; MOST_BYTES],
+            phase: NO_FRAME,
+            partial: 0,
+            register: 0,
+        },
     }
 }
 

@@ -4,8 +4,8 @@ ghost use mathlib.Core.Path.{_≡_};
 ghost use lib.ListN.{length};
 ghost use Rattle.live.specs.Feeding.{fedOf, lentOf, askedOf};
 use live::Asked;
-use live::Heard;
-use live::Live;
+use live_answer::Heard;
+use live_held::Live;
 use units::Micros;
 
 // One interval more. The bytes of a frame that it closes go into those lent, at least 12. A refusal changes nothing.

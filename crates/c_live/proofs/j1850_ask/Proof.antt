@@ -26,10 +26,10 @@ use denote.Triple.Entry.{onEntry}
 use denote.Triple.Spec.{Meets, tripleOf}
 use denote.Triple.Table.{entered, cited}
 use denote.Triple.Clauses.{ensured, Lasts, lasts}
-use Rattle.live.specs.declared.Live.{Live}
+use Rattle.live_held.specs.declared.Live.{Live}
 use Rattle.live.specs.declared.Asked.{Asked}
 use Rattle.live.specs.Feeding.{askedOf}
-use Rattle.live.proofs.Live as T
+use Rattle.live_held.proofs.Live as T
 use Rattle.live.proofs.Asked as C
 use Rattle.live.proofs.Asked.Laws as C′
 use Rattle.walks.specs.Walk.{envOf, allocs-all, frees-all, calls-plain, upFrom}

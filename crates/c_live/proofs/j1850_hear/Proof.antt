@@ -37,13 +37,13 @@ use denote.Triple.Clauses.{ensured, Lasts, lasts}
 use Rattle.units.specs.declared.Micros.{Micros}
 use Rattle.units.proofs.Micros as U
 use Rattle.units.proofs.Micros.Laws as U′
-use Rattle.live.specs.declared.Live.{Live}
-use Rattle.live.specs.declared.Heard.{Heard}
-use Rattle.live.specs.declared.Fed.{Fed}
+use Rattle.live_held.specs.declared.Live.{Live}
+use Rattle.live_answer.specs.declared.Heard.{Heard}
+use Rattle.live_answer.specs.declared.Fed.{Fed}
 use Rattle.live.specs.Feeding.{fedOf, lentOf}
-use Rattle.live.proofs.Live as T
-use Rattle.live.proofs.Heard as C
-use Rattle.live.proofs.Heard.Laws as C′
+use Rattle.live_held.proofs.Live as T
+use Rattle.live_answer.proofs.Heard as C
+use Rattle.live_answer.proofs.Heard.Laws as C′
 use Rattle.walks.specs.Walk.{envOf, allocs-all, frees-all, calls-plain, upFrom}
 use Rattle.live_lent.proofs.hear as inner
 use Rattle.live_lent.proofs.hear.Symbol as inner-def

@@ -33,11 +33,11 @@ use denote.Triple.Spec.{Meets, tripleOf}
 use denote.Triple.Table.{entered, cited}
 use denote.Triple.Walked.{says, Stays, stay-dropped, walkOf, AllGo, goes-dropped, Walks, ends-at, walked, walk-meets}
 use denote.Triple.Clauses.{ensured, lasts}
-use Rattle.live.specs.declared.Live.{Live}
+use Rattle.live_held.specs.declared.Live.{Live}
 use Rattle.live.specs.declared.Asked.{Asked}
 use Rattle.live.specs.Feeding.{askedOf}
-use Rattle.live.proofs.Live as T
-use Rattle.live.proofs.Live.Laws as T′
+use Rattle.live_held.proofs.Live as T
+use Rattle.live_held.proofs.Live.Laws as T′
 use Rattle.live.proofs.Asked as K
 use Rattle.live.proofs.Asked.Laws as K′
 use Rattle.live.proofs.ask as by-value

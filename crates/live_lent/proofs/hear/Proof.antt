@@ -44,16 +44,16 @@ use denote.Triple.Clauses.{ensured, lasts}
 use Rattle.units.specs.declared.Micros.{Micros}
 use Rattle.units.proofs.Micros as U
 use Rattle.units.proofs.Micros.Laws as U′
-use Rattle.live.specs.declared.Live.{Live}
-use Rattle.live.specs.declared.Heard.{Heard}
-use Rattle.live.specs.declared.Fed.{Fed}
+use Rattle.live_held.specs.declared.Live.{Live}
+use Rattle.live_answer.specs.declared.Heard.{Heard}
+use Rattle.live_answer.specs.declared.Fed.{Fed}
 use Rattle.live.specs.Feeding.{fedOf, lentOf}
-use Rattle.live.proofs.Live as T
-use Rattle.live.proofs.Live.Laws as T′
-use Rattle.live.proofs.Heard as K
-use Rattle.live.proofs.Heard.Laws as K′
-use Rattle.live.proofs.Fed as S
-use Rattle.live.proofs.Fed.Laws as S′
+use Rattle.live_held.proofs.Live as T
+use Rattle.live_held.proofs.Live.Laws as T′
+use Rattle.live_answer.proofs.Heard as K
+use Rattle.live_answer.proofs.Heard.Laws as K′
+use Rattle.live_answer.proofs.Fed as S
+use Rattle.live_answer.proofs.Fed.Laws as S′
 use Rattle.live.proofs.hear as by-value
 use Rattle.live.proofs.hear.Symbol as by-value-def
 use Rattle.live.proofs.hear.Symbol.{name as #by-value}

@@ -1,0 +1,6 @@
+-- Definitions.
+pub mod Held
+-- Laws.
+pub mod HeldLaws
+-- Machinery.
+pub mod Reader

@@ -1,0 +1,4 @@
+-- Laws.
+pub mod TakenLaws
+-- Machinery.
+pub mod Taken
