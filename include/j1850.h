@@ -213,7 +213,7 @@ j1850_round_answer j1850_round(j1850_station *row, size_t row_length, uint32_t *
 /* The desk's text for a recording: the input is a line `own`, customer, vehicle, and a line `iv`, width, for each interval,
    the fields parted by tabs; the text has a line for each frame, fault and end. Lend J1850_DESK_WORDS words, which take the
    input's widths, and J1850_DESK_TEXT bytes, however short the input. A bad input (62) has a text too: the line `refused`
-   with the number of its first bad line. The words then hold the widths before that line. */
+   with the number of its first bad line. The words are then as they were. */
 j1850_desk_answer j1850_desk(const uint8_t *input, size_t input_length, uint32_t *words, size_t words_length,
                              uint8_t *text, size_t text_length);
 

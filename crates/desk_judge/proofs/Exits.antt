@@ -8,6 +8,7 @@ use native.Mathlib.Numerals.{add-one}
 use native.Mathlib.Omega.{arith}
 use lib.Dec.{eqb}
 use lib.ListN.{length, take, drop}
+use lib.Seq.{sets}
 use borrow.Author.Tests.{lt-ltb, le-ltb, eq-eqb, ne-eqb}
 use Rattle.bytes.specs.Bytes.{indexOf, slice}
 use Rattle.laws.specs.Lent.{sets-first}
@@ -17,22 +18,29 @@ use Rattle.desk_text.specs.declared.JudgedInput.{JudgedInput}
 use Rattle.desk_text.specs.declared.JudgedInput.the-variants.{Good, Bad, FewLentWords}
 use Rattle.desk_text.specs.Grammar.{newline}
 use Rattle.desk_text.specs.Input.{Line, shut, unshut, lines, field, ownLine, mostWidths, badFrom, widthsFrom, firstBad, recordingOf}
+use Rattle.desk_text.specs.Whole.{recording-few}
 use Rattle.desk_text.specs.PieceLaws.{lines-first, lines-none}
 use Rattle.desk_text.specs.Promise.{JudgedTale, ifGood, judgingBy, judging, judgedTold, laidOn, JudgePromise}
 use Rattle.desk_judge.specs.declared.Own.{Own}
 use Rattle.desk_judge.specs.declared.Own.the-variants.{Of as Two, Not as None}
-use Rattle.desk_judge.specs.declared.Taken.{Taken}
-use Rattle.desk_judge.specs.Found.{ownBy, ownOf, Taking, AfterOwn, judgedBy}
+use Rattle.desk_judge.specs.Found.{ownBy, ownOf, WidthsLaid, AfterOwn, judgedBy}
 use Rattle.desk_judge.proofs.Fields.{rest-all, found}
 
--- ## AfterOwn a good first line
+-- ## After a good first line
 
-module _ {s entry exit : List ℕ} {r : Taken} (labels : Labels) (t : Taking s entry exit r) where
-  pub after-good : r .line ≡ 0 → AfterOwn labels s entry exit (Good labels (r .widths))
-  after-good e = record { answer = rw (eq-eqb (badFrom 2 (lines s)) 0 (sym (t .stop) ∙ e), t .count); laid = t .laid; few = t .few }
+module _ (s : List ℕ) {line : ℕ} (judged : line ≡ badFrom 2 (lines s)) where
+  pub none-bad : line ≡ 0 → badFrom 2 (lines s) ≡ 0
+  none-bad e = sym judged ∙ e
 
-  pub after-bad : (r .line ≡ 0 → ⊥) → AfterOwn labels s entry exit (Bad (r .line))
-  after-bad n = record { answer = rw (ne-eqb (badFrom 2 (lines s)) 0 (λ e. n (t .stop ∙ e)), t .stop); laid = t .laid; few = t .few }
+  pub after-good : {entry exit : List ℕ} {n : ℕ} (labels : Labels) → line ≡ 0 → WidthsLaid s entry exit n → AfterOwn labels s entry exit (Good labels n)
+  after-good labels e t =
+      let c = eq-eqb (badFrom 2 (lines s)) 0 (none-bad e) in
+      record { answer = rw (c, t .count); laid = t .laid ∙ rw c }
+
+  pub after-bad : {entry : List ℕ} (labels : Labels) → (line ≡ 0 → ⊥) → AfterOwn labels s entry entry (Bad line)
+  after-bad labels n =
+      let c = ne-eqb (badFrom 2 (lines s)) 0 (λ e. n (judged ∙ e)) in
+      record { answer = rw (c, judged); laid = rw c }
 
 -- ## The first line
 
@@ -70,7 +78,7 @@ numberBy ls = numberIf (eqb (firstBad ls) 0)
 
 module _ (s entry : List ℕ) (h : mostWidths ≤ length entry) where
   -- what the lines come to settles the promise
-  promised : (ls : List Line) → lines s ≡ ls → (exit : List ℕ) (r : JudgedInput) → judgedTold r ≡ judgingBy (numberBy ls) ls → exit ≡ laidOn (cond (eqb (numberBy ls) 61) [] (recordingOf ls)) entry → JudgePromise s entry exit r
+  promised : (ls : List Line) → lines s ≡ ls → (exit : List ℕ) (r : JudgedInput) → judgedTold r ≡ judgingBy (numberBy ls) ls → exit ≡ laidOn (cond (eqb (numberBy ls) 0) (recordingOf ls) []) entry → JudgePromise s entry exit r
   unfolding judging
   promised ls e exit r p q = record {
     tells-it = rw (le-ltb (length entry) mostWidths h, e) p;
@@ -78,8 +86,8 @@ module _ (s entry : List ℕ) (h : mostWidths ≤ length entry) where
   }
 
   -- a first line that is bad
-  refused-first : (ls : List Line) → lines s ≡ ls → firstBad ls ≡ 1 → recordingOf ls ≡ [] → JudgePromise s entry entry (Bad 1)
-  refused-first ls e p q = promised ls e entry (Bad 1) (rw p) (rw (p, q))
+  refused-first : (ls : List Line) → lines s ≡ ls → firstBad ls ≡ 1 → JudgePromise s entry entry (Bad 1)
+  refused-first ls e p = promised ls e entry (Bad 1) (rw p) (rw p)
 
   module _ (e : ℕ) (at : e ≡ 0 + indexOf 10 (slice 0 (length s) s)) where
     pub first-open : e ≡ length s → JudgePromise s entry entry (Bad 1)
@@ -91,8 +99,8 @@ module _ (s entry : List ℕ) (h : mostWidths ≤ length entry) where
         empty (x ∷ xs) h = absurd (omega arith)
 
         go : (length s ≤ 0) ⊎ (0 < length s) → JudgePromise s entry entry (Bad 1)
-        go (inl z) = refused-first [] (rw (empty s z)) refl refl
-        go (inr z) = refused-first (unshut s ∷ []) (lines-none s z (sym (found newline s e at) ∙ q)) refl refl
+        go (inl z) = refused-first [] (rw (empty s z)) refl
+        go (inr z) = refused-first (unshut s ∷ []) (lines-none s z (sym (found newline s e at) ∙ q)) refl
 
     module _ (inside : e ≤ length s) (closed : e ≡ length s → ⊥) where
       split : lines s ≡ shut (take e s) ∷ lines (drop (e + 1) s)
@@ -103,7 +111,7 @@ module _ (s entry : List ℕ) (h : mostWidths ≤ length entry) where
       pub first-bad : {w : Own} → w ≡ ownOf (take e s) → w ≡ None → JudgePromise s entry entry (Bad 1)
       first-bad a b =
           let n : ownLine (shut (take e s)) ≡ false = own-bad (take e s) (sym a ∙ b) in
-          refused-first (shut (take e s) ∷ lines (drop (e + 1) s)) split (rw n) (rw n)
+          refused-first (shut (take e s) ∷ lines (drop (e + 1) s)) split (rw n)
 
       pub first-good : {w : Own} {labels : Labels} {exit : List ℕ} {r : JudgedInput} → w ≡ ownOf (take e s) → w ≡ Two labels
           → AfterOwn labels (take (length s - (e + 1)) (drop (e + 1) s)) entry exit r → JudgePromise s entry exit r
@@ -119,11 +127,13 @@ module _ (s entry : List ℕ) (h : mostWidths ≤ length entry) where
           by true u = refl
           by false u = refl
 
-          laid : (c : Bool) (ws : List ℕ) → ws ≡ cond (eqb (numberIf c) 61) [] ws
-          laid true ws = refl
-          laid false ws = refl
+          laid : (c : Bool) (ws : List ℕ) → length ws ≤ length entry → exit ≡ sets entry 0 (cond c ws []) → exit ≡ laidOn (cond (eqb (numberIf c) 0) ws []) entry
+          laid true ws few d = d ∙ sets-first entry ws few
+          laid false ws few d = d
 
           go : (u : List ℕ) → lines s ≡ shut (take e s) ∷ lines u → AfterOwn labels u entry exit r → JudgePromise s entry exit r
-          go u p d = promised (shut (take e s) ∷ lines u) p exit r
+          go u p d =
+              let few : length (widthsFrom 2 (lines u)) ≤ mostWidths = rw (g .0) at (recording-few (shut (take e s) ∷ lines u)) in
+              promised (shut (take e s) ∷ lines u) p exit r
               (rw (d .answer, g .0, g .1, g .2) (by (eqb (badFrom 2 (lines u)) 0) u))
-              (d .laid ∙ sets-first entry (widthsFrom 2 (lines u)) (omega (arith, d .few)) ∙ rw (g .0, ← laid (eqb (badFrom 2 (lines u)) 0) (widthsFrom 2 (lines u))))
+              (rw (g .0) (laid (eqb (badFrom 2 (lines u)) 0) (widthsFrom 2 (lines u)) (omega arith) (d .laid)))

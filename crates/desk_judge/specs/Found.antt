@@ -1,8 +1,8 @@
 -- Machinery.
 -- What the steps of judging find, told by the definitions of `desk_text`.
-use Prim.Native.Nat.{ℕ, _≤_}
+use Prim.Native.Nat.{ℕ}
 use mathlib.Core.Path.{_≡_}
-use mathlib.Core.Bool.{Bool, true, false, _&&_}
+use mathlib.Core.Bool.{Bool, true, false, cond, _&&_}
 use mathlib.Core.List.{List, []}
 use lib.Dec.{eqb}
 use lib.ListN.{length, getD}
@@ -11,13 +11,12 @@ use Rattle.desk_text.specs.declared.Labels.{Labels}
 use Rattle.desk_text.specs.declared.JudgedInput.{JudgedInput}
 use Rattle.label.specs.Labels.{isLabel}
 use Rattle.desk_text.specs.Grammar.{fields, spelt}
-use Rattle.desk_text.specs.Input.{shut, lines, field, ownLine, ivLine, mostWidths, badFrom, widthsFrom}
+use Rattle.desk_text.specs.Input.{shut, lines, field, ownLine, ivLine, badFrom, widthsFrom}
 use Rattle.desk_text.specs.declared.JudgedInput.the-variants.{Good, Bad}
 use Rattle.desk_field.specs.declared.Width.{Width}
 use Rattle.desk_field.specs.Widths.{widthBy}
 use Rattle.desk_judge.specs.declared.Own.{Own}
 use Rattle.desk_judge.specs.declared.Own.the-variants.{Of as Two, Not as None}
-use Rattle.desk_judge.specs.declared.Taken.{Taken}
 
 -- the labels where a test holds, by their lengths
 abbrev pub ownBy : Bool → List ℕ → List ℕ → Own
@@ -40,20 +39,17 @@ fieldOf k l = getD (fields l) k []
 unfoldable pub labelsOf : List ℕ → Own
 labelsOf l = ownBy (eqb (length (fields l)) 2 && (isLabel (fieldOf 0 l) && isLabel (fieldOf 1 l))) (fieldOf 0 l) (fieldOf 1 l)
 
--- The widths of the lines of s, which begin at line 2, are laid from the first word on, up to the first bad line.
-pub record Taking (s entry exit : List ℕ) (r : Taken) : Type 0 where
-  pub count : r .widths ≡ length (widthsFrom 2 (lines s))
-  pub stop : r .line ≡ badFrom 2 (lines s)
+-- The widths of the lines of s, which begin at line 2, are laid from the first word on.
+pub record WidthsLaid (s entry exit : List ℕ) (widths : ℕ) : Type 0 where
+  pub count : widths ≡ length (widthsFrom 2 (lines s))
   pub laid : exit ≡ sets entry 0 (widthsFrom 2 (lines s))
-  pub few : length (widthsFrom 2 (lines s)) ≤ mostWidths
 
 -- what judging comes to after a good first line with these labels
 abbrev pub judgedBy : Bool → Labels → ℕ → ℕ → JudgedInput
 judgedBy true labels widths line = Good labels widths
 judgedBy false labels widths line = Bad line
 
--- The answer after a good first line with these labels, and the lent words.
+-- The answer after a good first line with these labels, and the lent words, in which only good lines lay anything.
 pub record AfterOwn (labels : Labels) (s entry exit : List ℕ) (r : JudgedInput) : Type 0 where
   pub answer : r ≡ judgedBy (eqb (badFrom 2 (lines s)) 0) labels (length (widthsFrom 2 (lines s))) (badFrom 2 (lines s))
-  pub laid : exit ≡ sets entry 0 (widthsFrom 2 (lines s))
-  pub few : length (widthsFrom 2 (lines s)) ≤ mostWidths
+  pub laid : exit ≡ sets entry 0 (cond (eqb (badFrom 2 (lines s)) 0) (widthsFrom 2 (lines s)) [])

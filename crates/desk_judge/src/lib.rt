@@ -3,9 +3,9 @@
 ghost use mathlib.Core.Path.{_≡_};
 ghost use Prim.Native.Nat.{_≤_};
 ghost use lib.ListN.{length};
-ghost use Rattle.desk_text.specs.Input.{mostWidths};
+ghost use Rattle.desk_text.specs.Input.{lines, mostWidths, badFrom};
 ghost use Rattle.desk_text.specs.Promise.{JudgePromise};
-ghost use Rattle.desk_judge.specs.Found.{ivOf, labelsOf, ownOf, Taking, AfterOwn};
+ghost use Rattle.desk_judge.specs.Found.{ivOf, labelsOf, ownOf, WidthsLaid, AfterOwn};
 use desk_field::Width;
 use desk_field::same;
 use desk_field::width_in;
@@ -22,16 +22,13 @@ const TAB: u8 = 9;
 // The number of the first line with a width, each of which has a line of its own.
 const FIRST_WIDTH_LINE: usize = 2;
 
+// Where the width begins in a good line: after `iv` and a tab.
+const WIDTH: usize = 3;
+
 // The labels of a first line, or none.
 enum Own {
     Of(Labels),
     Not,
-}
-
-// How many widths were taken, and the number of the bad line that ended it, or 0.
-struct Taken {
-    widths: usize,
-    line: usize,
 }
 
 // The width of a line `iv`, tab, width, given without its newline.
@@ -82,44 +79,55 @@ fn own_line(s: &[u8]) -> Own
     two_labels(&s[m + 1..])
 }
 
-// The lines after the first one: each width goes to its word, up to the first bad line.
-fn iv_lines(s: &[u8], lent: &mut [u32]) -> Taken
-    requires { ⌜ mostWidths ≤ length (now lent) ⌝ }
-    ensures { λ r. ⌜ Taking (now (s .entry)) (now (lent .entry)) (now (lent .exit)) r ⌝ }
+// The number of the first bad line among those after the first one, or 0.
+fn bad_line(s: &[u8]) -> usize
+    ensures { λ r. ⌜ r ≡ badFrom 2 (lines (now (s .entry))) ⌝ }
 {
     let mut t = s;
     let mut k = 0;
     while t.len() > 0 {
         let e = bytes::scan::find(t, 0, t.len(), NEWLINE);
         if e == t.len() {
-            return Taken {
-                widths: k,
-                line: FIRST_WIDTH_LINE + k,
-            };
+            return FIRST_WIDTH_LINE + k;
         }
         if k == MOST_WIDTHS {
-            return Taken {
-                widths: k,
-                line: FIRST_WIDTH_LINE + k,
-            };
+            return FIRST_WIDTH_LINE + k;
         }
         let found = iv_line(&t[..e]);
         match found {
-            Width::Of(x) => {
-                lent[k] = x;
-            }
-            Width::Not => return Taken {
-                widths: k,
-                line: FIRST_WIDTH_LINE + k,
-            },
+            Width::Of(_) => {}
+            Width::Not => return FIRST_WIDTH_LINE + k,
         }
         k += 1;
         t = &t[e + 1..];
     }
-    Taken { widths: k, line: 0 }
+    0
 }
 
-// Judges an input. Its widths are laid in the lent words, of which 16,384 are asked for.
+// The lines after the first one, all of them good: each width goes to its word. Answers how many there are.
+fn lay_widths(s: &[u8], lent: &mut [u32]) -> usize
+    requires { ⌜ badFrom 2 (lines (now s)) ≡ 0 ⌝ }
+    requires { ⌜ mostWidths ≤ length (now lent) ⌝ }
+    ensures { λ r. ⌜ WidthsLaid (now (s .entry)) (now (lent .entry)) (now (lent .exit)) r ⌝ }
+{
+    let mut t = s;
+    let mut k = 0;
+    while t.len() > 0 {
+        let e = bytes::scan::find(t, 0, t.len(), NEWLINE);
+        let found = width_in(&t[WIDTH..e]);
+        match found {
+            Width::Of(x) => {
+                lent[k] = x;
+            }
+            Width::Not => return k,
+        }
+        k += 1;
+        t = &t[e + 1..];
+    }
+    k
+}
+
+// Judges an input, and lays its widths in the lent words where it is good. 16,384 words are asked for.
 pub fn judge(input: &[u8], lent: &mut [u32]) -> JudgedInput
     ensures { λ r. ⌜ JudgePromise (now (input .entry)) (now (lent .entry)) (now (lent .exit)) r ⌝ }
 {
@@ -137,15 +145,14 @@ pub fn judge(input: &[u8], lent: &mut [u32]) -> JudgedInput
     }
 }
 
-// What follows a good first line.
+// What follows a good first line: all lines are judged before a width is laid.
 fn after_own(s: &[u8], labels: Labels, lent: &mut [u32]) -> JudgedInput
     requires { ⌜ mostWidths ≤ length (now lent) ⌝ }
     ensures { λ r. ⌜ AfterOwn labels (now (s .entry)) (now (lent .entry)) (now (lent .exit)) r ⌝ }
 {
-    let taken = iv_lines(s, lent);
-    let widths = taken.widths;
-    let line = taken.line;
+    let line = bad_line(s);
     if line == 0 {
+        let widths = lay_widths(s, lent);
         JudgedInput::Good { labels, widths }
     } else {
         JudgedInput::Bad { line }

@@ -1,6 +1,6 @@
 -- Laws.
--- When the desk's calls answer which number: each of 61 and 62 exactly when its rule is the first to hold, and 0 exactly when
--- none does.
+-- When the desk's calls answer which number: each of 61 and 62 exactly when its rule is the first to hold, with the lent words
+-- as they were, and 0 exactly when none does.
 use Prim.Native.Nat.{ℕ, _<_}
 use mathlib.Core.Path.{_≡_, refl, sym, ap, _∙_}
 use mathlib.Core.List.{List}
@@ -9,10 +9,10 @@ use native.Mathlib.Omega.{arith}
 use lib.ListN.{length}
 use borrow.Author.Tests.{ne-eqb}
 use Rattle.laws.specs.Rules.{firstRule, FirstToHold, NoneHolds, TurnedAway}
-use Rattle.laws.specs.RuleLaws.{first-is, none-is, refuses}
+use Rattle.laws.specs.RuleLaws.{none-is, refuses}
 use Rattle.desk_text.specs.declared.JudgedInput.{JudgedInput}
 use Rattle.desk_text.specs.declared.Answered.{Answered}
-use Rattle.desk_text.specs.Input.{lines, firstBad}
+use Rattle.desk_text.specs.Input.{lines, firstBad, recordingOf}
 use Rattle.desk_text.specs.Report.{deskOf}
 use Rattle.desk_text.specs.Promise.{lentShort, judgeRules, deskRules, judging, JudgedTale, judgedTold, laidOn, JudgePromise, answering, DeskTale, answeredTold, DeskPromise}
 
@@ -27,15 +27,11 @@ module _ {s entry exit : List ℕ} {r : JudgedInput} (q : JudgePromise s entry e
   unfolding judging
   by-rules = its-number
 
-  -- 61 and 62, each exactly when its rule is the first to hold: fewer than 16,384 words lent; enough, and some line bad.
-  pub judge-exactly : (n : ℕ) → 0 < n → (judgedTold r .number ≡ n) ↔ FirstToHold n (judgeRules s (length entry))
+  -- 61 and 62, each exactly when its rule is the first to hold, and then no word is changed: fewer than 16,384 words lent;
+  -- enough, and some line bad.
+  pub judge-exactly : (n : ℕ) → 0 < n → TurnedAway (judgedTold r .number) n (FirstToHold n (judgeRules s (length entry))) (exit ≡ entry)
   judge-exactly n h =
-      let law = first-is n (judgeRules s (length entry)) h refl in
-      (λ e. law .0 (sym by-rules ∙ e), λ f. by-rules ∙ law .1 f)
-
-  -- 61, and no word is changed
-  pub judge-61 : TurnedAway (judgedTold r .number) 61 (FirstToHold 61 (judgeRules s (length entry))) (exit ≡ entry)
-  judge-61 = refuses 61 (judgeRules s (length entry)) (omega arith) refl by-rules (λ e. q .lends-it ∙ rw (sym its-number ∙ e))
+      refuses n (judgeRules s (length entry)) h refl by-rules (λ e. q .lends-it ∙ rw (sym its-number ∙ e, ne-eqb n 0 (λ z. omega arith)))
 
   -- The line told of with 62 is the first bad one.
   pub judge-line : judgedTold r .number ≡ 62 → judgedTold r .line ≡ firstBad (lines s)
@@ -48,6 +44,10 @@ module _ {s entry exit : List ℕ} {r : JudgedInput} (q : JudgePromise s entry e
       let law = none-is (judgeRules s (length entry)) refl in
       (λ e. law .0 (sym by-rules ∙ e), λ h. by-rules ∙ law .1 h)
 
+  -- Then the input's widths stand first in the lent words, and the rest is unchanged.
+  pub judge-lays : judgedTold r .number ≡ 0 → exit ≡ laidOn (recordingOf (lines s)) entry
+  judge-lays e = q .lends-it ∙ rw (sym its-number ∙ e)
+
 -- ## The desk's call
 
 module _ {s words left entry exit : List ℕ} {r : Answered} (q : DeskPromise s words left entry exit r) where
@@ -59,17 +59,16 @@ module _ {s words left entry exit : List ℕ} {r : Answered} (q : DeskPromise s 
   unfolding answering
   by-desk-rules = desk-number
 
-  -- 61 and 62, each exactly when its rule is the first to hold: too few words or bytes lent; enough, and some line bad.
-  pub desk-exactly : (n : ℕ) → 0 < n → (answeredTold r .number ≡ n) ↔ FirstToHold n (deskRules s (length words) (length entry))
+  -- 61 and 62, each exactly when its rule is the first to hold, and then no word is changed: too few words or bytes lent;
+  -- enough, and some line bad.
+  pub desk-exactly : (n : ℕ) → 0 < n → TurnedAway (answeredTold r .number) n (FirstToHold n (deskRules s (length words) (length entry))) (left ≡ words)
   desk-exactly n h =
-      let law = first-is n (deskRules s (length words) (length entry)) h refl in
-      (λ e. law .0 (sym by-desk-rules ∙ e), λ f. by-desk-rules ∙ law .1 f)
+      refuses n (deskRules s (length words) (length entry)) h refl by-desk-rules
+      (λ e. q .words-it ∙ rw (sym desk-number ∙ e, ne-eqb n 0 (λ z. omega arith)))
 
-  -- 61, and no byte and no word is changed
-  pub desk-61 : TurnedAway (answeredTold r .number) 61 (FirstToHold 61 (deskRules s (length words) (length entry))) ((exit ≡ entry) × (left ≡ words))
-  desk-61 =
-      refuses 61 (deskRules s (length words) (length entry)) (omega arith) refl by-desk-rules
-      (λ e. (q .lends-it ∙ rw (sym desk-number ∙ e), q .words-it ∙ rw (sym desk-number ∙ e)))
+  -- 61, and no byte is changed
+  pub desk-61 : TurnedAway (answeredTold r .number) 61 (FirstToHold 61 (deskRules s (length words) (length entry))) (exit ≡ entry)
+  desk-61 = refuses 61 (deskRules s (length words) (length entry)) (omega arith) refl by-desk-rules (λ e. q .lends-it ∙ rw (sym desk-number ∙ e))
 
   -- The line told of with 62 is the first bad one.
   pub desk-line : answeredTold r .number ≡ 62 → answeredTold r .line ≡ firstBad (lines s)
@@ -81,6 +80,10 @@ module _ {s words left entry exit : List ℕ} {r : Answered} (q : DeskPromise s 
   desk-none =
       let law = none-is (deskRules s (length words) (length entry)) refl in
       (λ e. law .0 (sym by-desk-rules ∙ e), λ h. by-desk-rules ∙ law .1 h)
+
+  -- Then the input's widths stand first in the lent words, and the rest is unchanged.
+  pub desk-lays : answeredTold r .number ≡ 0 → left ≡ laidOn (recordingOf (lines s)) words
+  desk-lays e = q .words-it ∙ rw (sym desk-number ∙ e)
 
   -- Where enough is lent, the text stands first in the lent bytes, the rest of which is unchanged, and its length is told.
   pub desk-writes : ¬ (lentShort (length words) (length entry) .Holds) → (exit ≡ laidOn (deskOf s) entry) × (answeredTold r .length ≡ length (deskOf s))

@@ -50,9 +50,9 @@ lineBy number ls = cond (eqb number 62) (firstBad ls) 0
 abbrev pub laidOn : List ℕ → List ℕ → List ℕ
 laidOn laid lent = laid ++ drop (length laid) lent
 
--- what is laid down in the lent words: the widths of the lines before the first bad one, and nothing where too little is lent
+-- what is laid down in the lent words: the widths of a good input, and nothing where too little is lent or the input is bad
 abbrev pub laidWords : ℕ → List ℕ → List ℕ
-laidWords number s = cond (eqb number 61) [] (recordingOf (lines s))
+laidWords number s = cond (eqb number 0) (recordingOf (lines s)) []
 
 -- ## Judging
 

@@ -14,7 +14,7 @@ pub struct Labels {
 }
 
 // What judging an input answers: its labels and the number of its widths, which then stand first in the lent words; or the
-// number of its first bad line; or a refusal, which changes nothing.
+// number of its first bad line; or that too little is lent. Only a good input changes anything.
 pub enum JudgedInput {
     Good { labels: Labels, widths: usize },
     Bad { line: usize },
@@ -22,7 +22,8 @@ pub enum JudgedInput {
 }
 
 // What the desk answers: how many bytes of text stand first in the lent bytes, and, where that text is a refusal of the input,
-// the number of its first bad line. FewLent is a refusal of the call, and changes nothing.
+// the number of its first bad line. The widths of a good input stand first in the lent words; a bad one leaves them as they
+// were. FewLent is a refusal of the call, and changes nothing.
 pub enum Answered {
     Report { length: usize },
     Refused { line: usize, length: usize },
