@@ -18,7 +18,8 @@ use Rattle.frame.specs.Decided.{Decision, isUnfinished, isGood, isFaulty
 use Rattle.frame.specs.ReadStated.{IsFirst, Undecided, Opens, ReadCase, isPast, isShort, isQuiet, isOpened, goesOn, Silent, Unclosed, AtFault, ReadsFault}
 
 module _ (limit : ℕ) (l : Line) (p lent : ℕ) where
-  opening-opens : (o : ℕ) → opening l p ≡ at o → o + 1 < l .count → Opens l p o
+  -- An opening that an interval follows opens a frame.
+  pub opening-opens : (o : ℕ) → opening l p ≡ at o → o + 1 < l .count → Opens l p o
   unfolding opening
   opening-opens o e h =
       let f : IsFirst (endAt l) p (l .count - p) o = first-at (endAt l) p (l .count - p) o e in

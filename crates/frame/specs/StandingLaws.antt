@@ -64,6 +64,11 @@ pub stands-sof : (l : Line) (o : ℕ) → stands l o (o + 1) ≡ atSof
 unfolding stands
 stands-sof l o = rw (eq-eqb (o + 1) (o + 1) refl)
 
+-- After the SOF's place the frame is in its main part, or after the first EOD in its response.
+pub stands-past : (l : Line) (o k : ℕ) → o + 1 < k → stands l o k ≡ standsBy (firstIn (λ j. isEod (l .shows j)) (o + 2) k) l o k
+unfolding stands
+stands-past l o k h = rw (ne-eqb k (o + 1) (λ x. omega arith))
+
 -- One place further, whatever it shows.
 pub stands-next : (l : Line) (o k : ℕ) → o < k → stands l o (k + 1) ≡ moved (stands l o k) (l .shows k)
 unfolding stands

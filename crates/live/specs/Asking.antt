@@ -9,15 +9,16 @@ use mathlib.Core.Logic.{_⊎_, inl, inr}
 use native.Mathlib.Omega.{arith}
 use native.Mathlib.Nat.{eq-or-lt-of-le}
 use lib.Dec.{leb}
-use borrow.Author.Tests.{le-ltb, le-leb, lt-leb, ne-eqb}
+use borrow.Author.Tests.{le-leb, lt-leb}
 use Rattle.frame.specs.Signs.{isEod}
-use Rattle.frame.specs.Line.{Line, Found, nowhere, at, firstIn, bitsIn}
+use Rattle.frame.specs.Line.{Line, Found, nowhere, at, firstIn, opening, bitsIn}
 use Rattle.frame.specs.Standing.{Standing, atSof, responseBy, stands, standsBy}
-use Rattle.frame.specs.StandingLaws.{stands-sof}
+use Rattle.frame.specs.StandingLaws.{stands-sof, stands-past}
 use Rattle.frame.specs.Faults.{mostBytes}
-use Rattle.frame.specs.Reading.{Outcome, quiet, unfinished, readOn}
+use Rattle.frame.specs.Reading.{Outcome, quiet, unfinished, readBy, readOn}
 use Rattle.frame.specs.ReadPromise.{tells}
 use Rattle.frame.specs.ReadStated.{goesOn}
+use Rattle.frame.specs.Outcomes.{reads-by}
 use Rattle.frame_machine.specs.declared.Machine.{Machine}
 use Rattle.frame_machine.specs.Holding.{phaseOf, holding}
 use Rattle.live_held.specs.declared.Inside.{Inside}
@@ -30,8 +31,7 @@ use Rattle.live.specs.Taking.{reached-in}
 
 -- After the SOF's place the machine is in a later phase.
 past-sof : (l : Line) (o k : ℕ) → o + 1 < k → leb (phaseNumber (phaseOf (stands l o k))) 1 ≡ false
-unfolding stands
-past-sof l o k h = rw (ne-eqb k (o + 1) (λ x. omega arith)) (by (firstIn (λ j. isEod (l .shows j)) (o + 2) k))
+past-sof l o k h = rw (stands-past l o k h) (by (firstIn (λ j. isEod (l .shows j)) (o + 2) k))
   where
     later : (main bits : List Bool) → leb (phaseNumber (phaseOf (responseBy main bits))) 1 ≡ false
     later main [] = refl
@@ -56,11 +56,14 @@ module _ (l : Line) (xs : List Outcome) (v : Live) (h : Hears l xs v) where
       → (askedTold (askedOf v) ≡ tells (readOn mostBytes l (v .places .from) mostBytes)) × (goesOn (readOn mostBytes l (v .places .from) mostBytes) ≡ false)
   both x g r a = (rw r a, rw r g)
 
+  read-by : readOn mostBytes l (v .places .from) mostBytes ≡ readBy (opening l (v .places .from)) mostBytes l (v .places .from)
+  read-by = reads-by mostBytes l (v .places .from) mostBytes (reached-in l (h .reached)) (omega arith)
+
   asks-by : Rest l (v .places) (v .inside)
       → (askedTold (askedOf v) ≡ tells (readOn mostBytes l (v .places .from) mostBytes)) × (goesOn (readOn mostBytes l (v .places .from) mostBytes) ≡ false)
-  unfolding askedOf readOn
+  unfolding askedOf
   asks-by (seeks kept is has-room none) =
-      both (quiet (v .places .from)) refl (rw (le-ltb (l .count) (v .places .from) (reached-in l (h .reached)), none)) (rw (no-phase kept is))
+      both (quiet (v .places .from)) refl (read-by ∙ rw none) (rw (no-phase kept is))
   asks-by (hears m kept is opens none stood) =
       let from-sof : v .places .opening + 1 ≤ l .count = omega (arith, stood .follows .opened) in
       go (eq-or-lt-of-le from-sof)
@@ -74,12 +77,12 @@ module _ (l : Line) (xs : List Outcome) (v : Live) (h : Hears l xs v) where
           let at-sof : stands l (v .places .opening) (l .count) ≡ atSof = ap (stands l (v .places .opening)) (sym e) ∙ stands-sof l (v .places .opening) in
           let p : leb (v .inside .phase) 1 ≡ true = ap (λ (x : ℕ). leb x 1) (phase-is ∙ ap (λ (st : Standing). phaseNumber (phaseOf st)) at-sof) in
           both (quiet (v .places .from)) refl
-          (rw (le-ltb (l .count) (v .places .from) (reached-in l (h .reached)), opens, le-leb (l .count) (v .places .opening + 1) (omega (arith, e))))
+          (read-by ∙ rw (opens, le-leb (l .count) (v .places .opening + 1) (omega (arith, e))))
           (rw p)
       go (inr far) =
           let p : leb (v .inside .phase) 1 ≡ false = ap (λ (x : ℕ). leb x 1) phase-is ∙ past-sof l (v .places .opening) (l .count) far in
           both (unfinished (v .places .opening)) refl
-          (rw (le-ltb (l .count) (v .places .from) (reached-in l (h .reached)), opens, lt-leb (l .count) (v .places .opening + 1) far, none))
+          (read-by ∙ rw (opens, lt-leb (l .count) (v .places .opening + 1) far, none))
           (rw p)
 
   -- Asking answers quiet or unfinished as reading does, from the position that the frames and faults told lead to.

@@ -1,7 +1,7 @@
 -- Laws.
 -- A reader that was started, and the next interval, where it is taken.
 use Prim.Native.Nat.{ℕ, _+_, _≤_, _<_}
-use mathlib.Core.Path.{_≡_, refl, sym, _∙_}
+use mathlib.Core.Path.{_≡_, refl, sym, ap₂, _∙_}
 use mathlib.Core.Bool.{true, false}
 use mathlib.Core.List.{List, [], _∷_}
 use native.Mathlib.Omega.{arith}
@@ -10,10 +10,11 @@ use lib.ListN.{length, getD, replicate, length-append, List·getD-append}
 use lib.Seq.{getD-append-seam}
 use borrow.Author.Tests.{le-ltb, eq-eqb}
 use Rattle.symbol.specs.Classes.{classOf, endOf}
-use Rattle.frame.specs.Line.{activeAt, symbolAt, single, endAt, nowhere, first, opening}
+use Rattle.frame.specs.Line.{activeAt, signOf, single, endAt, nowhere, opening}
 use Rattle.frame.specs.Faults.{mostBytes}
 use Rattle.frame.specs.Reading.{Outcome}
-use Rattle.frame.specs.ShownLaws.{end-width}
+use Rattle.frame.specs.ShownLaws.{end-width, shows-class}
+use Rattle.frame.specs.FirstLaws.{first-empty, opening-is}
 use Rattle.frame.specs.ReadingOn.{none-yet}
 use Rattle.frame.specs.Longer.{shows-same}
 use Rattle.frame_machine.specs.declared.Phase.{Phase}
@@ -33,9 +34,9 @@ use Rattle.live.specs.Shown.{on}
 
 -- A reader that was started has heard nothing and told nothing.
 pub starts : Hears (single []) [] started
-unfolding started opening first
+unfolding started
 starts =
-    record { reached = none-yet; counts = room refl refl (omega arith); rest = seeks (replicate mostBytes 0) refl (omega arith) refl }
+    record { reached = none-yet; counts = room refl refl (omega arith); rest = seeks (replicate mostBytes 0) refl (omega arith) (opening-is (single []) 0 ∙ first-empty (endAt (single [])) 0 0 (omega arith)) }
 
 -- ## The next interval
 
@@ -72,8 +73,10 @@ module _ (ws : List ℕ) (w : ℕ) where
 
   -- what the interval shows, by its place in the recording ..
   shown-here : (n : ℕ) → n ≡ length ws → meaningOf (signFor (classOf (activeAt n) w)) ≡ single (on ws w) .shows (length ws)
-  unfolding symbolAt
-  shown-here n e = sign-means (classOf (activeAt n) w) ∙ rw (e, here)
+  shown-here n e =
+      sign-means (classOf (activeAt n) w)
+      ∙ ap₂ (λ (k x : ℕ). signOf (classOf (activeAt k) x)) e (sym here)
+      ∙ sym (shows-class (on ws w) (length ws))
 
   -- .. and whether it is an end
   end-here : (n : ℕ) → n ≡ length ws → endAt (single (on ws w)) (length ws) ≡ endOf (activeAt n) w

@@ -7,7 +7,7 @@ use mathlib.Core.Bool.{true, false}
 use mathlib.Core.List.{List, [], _∷_, _++_, append-nil}
 use native.Mathlib.Omega.{arith}
 use lib.ListN.{length, length-map}
-use borrow.Author.Tests.{le-ltb, le-leb}
+use borrow.Author.Tests.{le-leb}
 use Rattle.symbol.specs.declared.Clock.{Clock}
 use Rattle.symbol.specs.Clocks.{goodOf}
 use Rattle.symbol.specs.SendingLaws.{good as good-clock}
@@ -15,7 +15,8 @@ use Rattle.frame.specs.declared.Response.{Response}
 use Rattle.checkbyte.specs.Register.{Bytes}
 use Rattle.frame.specs.Line.{single, at, opening}
 use Rattle.frame.specs.Faults.{mostBytes}
-use Rattle.frame.specs.Reading.{Outcome, good, quiet, readOn, reading}
+use Rattle.frame.specs.Reading.{Outcome, good, quiet, reading}
+use Rattle.frame.specs.Outcomes.{reads-by}
 use Rattle.frame.specs.Writing.{frameSent, badMessage, frameWords}
 use Rattle.frame.specs.Waves.{FrameWave}
 use Rattle.frame.specs.ReadBack.{wave-few, reads-wave}
@@ -37,12 +38,11 @@ module _ (ws main : List ℕ) (kind : Response) (rs : List ℕ) (wave : FrameWav
       ∙ ap (λ (k : ℕ). good (frameSent main kind rs 0 k)) e
 
   then-quiet : reading ws (length ws - 1) mostBytes ≡ quiet (length ws - 1)
-  unfolding readOn
   then-quiet =
       let goes : (0 < nextOf (reading ws 0 mostBytes)) × (nextOf (reading ws 0 mostBytes) < length ws) = progress mostBytes (single ws) 0 mostBytes (rw is-message) in
       let within : length ws - 1 < length ws = rw is-message at (goes .1) in
       let opens : opening (single ws) (length ws - 1) ≡ at (length ws - 1) = closing-opens mostBytes (single ws) 0 mostBytes (frameSent main kind rs 0 (length ws - 1)) is-message in
-      rw (le-ltb (length ws) (length ws - 1) (omega arith), opens, le-leb (length ws) (length ws - 1 + 1) (omega (arith, within)))
+      reads-by mostBytes (single ws) (length ws - 1) mostBytes (omega arith) (omega arith) ∙ rw (opens, le-leb (length ws) (length ws - 1 + 1) (omega (arith, within)))
 
   reads-both : ReadsOn ws mostBytes 0 (message ∷ quiet (length ws - 1) ∷ [])
   reads-both =

@@ -13,7 +13,7 @@ use borrow.Author.Tests.{eq-eqb, ne-eqb}
 use Rattle.frame.specs.Line.{Line, endAt, nowhere, at, firstIn, opening}
 use Rattle.frame.specs.Faults.{mostBytes}
 use Rattle.frame.specs.Reading.{Outcome, decides}
-use Rattle.frame.specs.FirstLaws.{first-next, first-empty}
+use Rattle.frame.specs.FirstLaws.{first-next, first-empty, opening-is}
 use Rattle.frame_machine.specs.Steps.{fresh}
 use Rattle.frame_machine.specs.Keeping.{keeping-first}
 use Rattle.frame_machine.specs.Stated.{Keeping}
@@ -43,14 +43,14 @@ counts-on n p from opening e h = go (eq-or-lt-of-le h)
 module _ (l : Line) (k : ℕ) (long : l .count ≡ k + 1) (v : Live) (at-k : v .places .next ≡ k) (has-room : mostBytes ≤ length (v .inside .kept)) where
   pub begins : (from : ℕ) → from ≤ k → firstIn (endAt l) from k ≡ nowhere → (b : Bool) → endAt l k ≡ b
       → Rest l (beginsAnew v from b .places) (beginsAnew v from b .inside)
-  unfolding beginsAnew after opening
+  unfolding beginsAnew after
   begins from h none true e =
-      let opens : firstIn (endAt l) from (l .count) ≡ at (v .places .next) = rw (long, first-next (endAt l) from k h, none, e, at-k) in
+      let opens : opening l from ≡ at (v .places .next) = opening-is l from ∙ rw (long, first-next (endAt l) from k h, none, e, at-k) in
       hears fresh (v .inside .kept) refl opens
       (first-empty (decides mostBytes l (v .places .next)) (v .places .next + 1) (l .count) (omega (arith, long, at-k)))
       (subst (λ (x : ℕ). Keeping mostBytes l (v .places .next) x fresh (v .inside .kept)) (ap (λ (x : ℕ). x + 1) at-k ∙ sym long) (keeping-first mostBytes l (v .places .next) fresh (v .inside .kept) refl has-room))
   begins from h none false e =
-      seeks (v .inside .kept) refl has-room (rw (long, first-next (endAt l) from k h, none, e))
+      seeks (v .inside .kept) refl has-room (opening-is l from ∙ rw (long, first-next (endAt l) from k h, none, e))
 
   -- A reader that then goes on from there has heard all of it.
   pub begins-hears : (xs : List Outcome) (from : ℕ) → k ≤ lastPlace → from ≤ k → firstIn (endAt l) from k ≡ nowhere → (b : Bool) → endAt l k ≡ b

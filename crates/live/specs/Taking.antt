@@ -12,9 +12,9 @@ use Rattle.frame.specs.Standing.{Standing, stands}
 use Rattle.frame.specs.Faults.{mostBytes}
 use Rattle.frame.specs.Reading.{Outcome, good, closed, faulty, decides, decidedBy, readOn}
 use Rattle.frame.specs.ReadPromise.{faultNumber}
-use Rattle.frame.specs.FirstLaws.{first-at, orAt, first-next, first-empty}
-use Rattle.frame.specs.ReadStated.{IsFirst, Opens, goesOn}
-use Rattle.frame.specs.Outcomes.{opened-reading}
+use Rattle.frame.specs.FirstLaws.{orAt, first-next, first-empty, opening-is}
+use Rattle.frame.specs.ReadStated.{Opens, goesOn}
+use Rattle.frame.specs.Outcomes.{opening-opens, opened-reading}
 use Rattle.frame.specs.ReadingOn.{nextOf, progress, none-yet, one-more}
 use Rattle.frame.specs.Longer.{first-same, end-same, stands-same, decides-same, reading-stays}
 use Rattle.frame_machine.specs.declared.Machine.{Machine}
@@ -55,9 +55,8 @@ module _ (l l' : Line) (long : l' .count ≡ l .count + 1) (same : (j : ℕ) →
 
   -- What was no opening before the interval is none now.
   pub none-still : (from : ℕ) → opening l from ≡ nowhere → firstIn (endAt l') from (l .count) ≡ nowhere
-  unfolding opening
   none-still from e =
-      sym (first-same (endAt l) (endAt l') from (l .count - from) (λ j a b. end-same l l' (l .count) same j (omega arith))) ∙ e
+      sym (first-same (endAt l) (endAt l') from (l .count - from) (λ j a b. end-same l l' (l .count) same j (omega arith))) ∙ sym (opening-is l from) ∙ e
 
 -- A reader that is hearing a frame, which opens at `o`, as the next interval comes.
 module _ (l l' : Line) (long : l' .count ≡ l .count + 1) (same : (j : ℕ) → j < l .count → l .shows j ≡ l' .shows j)
@@ -98,10 +97,9 @@ module _ (l l' : Line) (long : l' .count ≡ l .count + 1) (same : (j : ℕ) →
       ∙ ap (λ (f : Found). orAt f (decides mostBytes l' o k) k) none-before ∙ ap (λ (x : Bool). cond x (at k) nowhere) d
 
   opens-on : opening l' (v .places .from) ≡ at o
-  unfolding opening
   opens-on =
-      let e : firstIn (endAt l') (v .places .from) k ≡ at o = sym (first-same (endAt l) (endAt l') (v .places .from) (k - v .places .from) (λ j a b. end-same l l' k same j (omega arith))) ∙ opens in
-      rw (long, first-next (endAt l') (v .places .from) k (reached-in l was), e)
+      let e : firstIn (endAt l') (v .places .from) k ≡ at o = sym (first-same (endAt l) (endAt l') (v .places .from) (k - v .places .from) (λ j a b. end-same l l' k same j (omega arith))) ∙ sym (opening-is l (v .places .from)) ∙ opens in
+      opening-is l' (v .places .from) ∙ rw (long, first-next (endAt l') (v .places .from) k (reached-in l was), e)
 
   kept-is : v .inside .kept ≡ kept
   unfolding insideOf
@@ -113,15 +111,8 @@ module _ (l l' : Line) (long : l' .count ≡ l .count + 1) (same : (j : ℕ) →
 
   -- Where the interval decides, the whole recording is read so.
   reads : decides mostBytes l' o k ≡ true → readOn mostBytes l' (v .places .from) mostBytes ≡ decidedBy (at k) mostBytes l' o
-  unfolding opening
   reads d =
-      let f : IsFirst (endAt l') (v .places .from) (l' .count - v .places .from) o = first-at (endAt l') (v .places .from) (l' .count - v .places .from) o opens-on in
-      let op : Opens l' (v .places .from) o = record {
-        from = f .from;
-        end = f .holds;
-        none-before = f .none-earlier;
-        followed = omega (arith, before .follows .opened, long);
-      } in
+      let op : Opens l' (v .places .from) o = opening-opens mostBytes l' (v .places .from) mostBytes o opens-on (omega (arith, before .follows .opened, long)) in
       let found : firstIn (decides mostBytes l' o) (o + 1) (l' .count) ≡ at k = found-next true d in
       opened-reading mostBytes l' (v .places .from) mostBytes o (omega arith) op ∙ ap (λ (x : Found). decidedBy x mostBytes l' o) found
 
