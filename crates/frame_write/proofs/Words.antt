@@ -1,44 +1,43 @@
 -- The lent words while a frame is laid into them, part by part.
-use Prim.Native.Nat.{ℕ, _+_, _*_, _/_, _≤_, _<_}
+use Prim.Native.Nat.{ℕ, _+_, _*_, _≤_, _<_}
 use mathlib.Core.Path.{_≡_, refl, sym, ap, _∙_}
 use mathlib.Core.Bool.{false}
 use mathlib.Core.List.{List, [], _∷_, _++_, append-assoc}
+use native.Mathlib.Numerals.{add-one}
 use native.Mathlib.Omega.{arith}
 use lib.ListN.{length, getD, take, set, length-append}
-use lib.Seq.{sets, length-take-le, take-all, length-sets}
+use lib.Seq.{sets, length-take-le, take-all, take-suc, length-sets}
 use Rattle.laws.specs.Lent.{sets-then}
 use Rattle.symbol.specs.declared.Clock.{Clock}
 use Rattle.symbol.specs.Sending.{endWidth}
 use Rattle.checkbyte.specs.Register.{allOnes, checkFrom, checkOf, withCheck}
 use Rattle.frame.specs.declared.Response.{Response}
 use Rattle.frame.specs.declared.Response.the-variants.{Plain, Checked}
-use Rattle.frame.specs.Bits.{odd, bitsOf, bitsOfByte}
+use Rattle.frame.specs.Bits.{bitsOf, bitsOfByte}
 use Rattle.frame.specs.Writing.{bitWidths, byteWidths, responseWidths, frameWords}
 use Rattle.frame.specs.WidthLaws.{byte-widths-length, byte-widths-append, byte-widths-more, with-check-length, responseWords, response-widths-length, frame-words-length}
 
--- the widths of a number's two lowest bits
-abbrev pub pair : Clock → ℕ → List ℕ
-pair c n = bitWidths c false (odd (n / 2) ∷ odd n ∷ [])
-
--- A byte, two bits at a time.
-pub pairs-laid : (c : Clock) (b : ℕ) (l : List ℕ) (at : ℕ)
-    → sets (sets (sets (sets l at (pair c (b / 64))) (at + 2) (pair c (b / 16))) (at + 2 + 2) (pair c (b / 4))) (at + 2 + 2 + 2) (pair c b)
-    ≡ sets l at (bitWidths c false (bitsOfByte b))
+-- The words of a byte are eight.
+pub eight : (c : Clock) (b : ℕ) (ws : List ℕ) → ws ≡ bitWidths c false (bitsOfByte b) → length ws ≡ 8
 unfolding bitWidths
-pairs-laid c b l at =
-    let half : List ℕ = pair c (b / 64) ++ pair c (b / 16) in
-    let most : List ℕ = half ++ pair c (b / 4) in
-    let n : at + 2 + 2 ≡ at + length half = omega arith in
-    let m : at + 2 + 2 + 2 ≡ at + length most = omega arith in
-    let first : b / 64 / 2 ≡ b / 128 = omega arith in
-    let third : b / 16 / 2 ≡ b / 32 = omega arith in
-    let fifth : b / 4 / 2 ≡ b / 8 = omega arith in
-    ap (λ (ws : List ℕ). sets (sets ws (at + 2 + 2) (pair c (b / 4))) (at + 2 + 2 + 2) (pair c b)) (sets-then l at (pair c (b / 64)) (pair c (b / 16)))
-    ∙ ap (λ (k : ℕ). sets (sets (sets l at half) k (pair c (b / 4))) (at + 2 + 2 + 2) (pair c b)) n
-    ∙ ap (λ (ws : List ℕ). sets ws (at + 2 + 2 + 2) (pair c b)) (sets-then l at half (pair c (b / 4)))
-    ∙ ap (λ (k : ℕ). sets (sets l at most) k (pair c b)) m
-    ∙ sets-then l at most (pair c b)
-    ∙ rw (first, third, fifth)
+eight c b ws e = ap length e
+
+-- One word more.
+word-more : (ws l : List ℕ) (at i : ℕ) → i < length ws
+    → set (sets l at (take i ws)) (at + i) (getD ws i 0) ≡ sets l at (take (i + 1) ws)
+word-more ws l at i h =
+    let n : at + i ≡ at + length (take i ws) = omega (arith, length-take-le i ws (omega arith)) in
+    ap (λ (k : ℕ). set (sets l at (take i ws)) k (getD ws i 0)) n
+    ∙ sets-then l at (take i ws) (getD ws i 0 ∷ [])
+    ∙ ap (sets l at) (sym (ap (λ (k : ℕ). take k ws) (add-one i) ∙ take-suc ws i 0 h))
+
+-- The same, with all that holds while the words of a byte are laid.
+pub word-next : (ws l so-far : List ℕ) (at i : ℕ) → i < 8 → length ws ≡ 8 → so-far ≡ sets l at (take i ws)
+    → (i + 1 ≤ 8) × (length (set so-far (at + i) (getD ws i 0)) ≡ length l) × (set so-far (at + i) (getD ws i 0) ≡ sets l at (take (i + 1) ws)) × (length ws ≡ 8)
+word-next ws l so-far at i h n e =
+    let new : set so-far (at + i) (getD ws i 0) ≡ sets l at (take (i + 1) ws) =
+    ap (λ (x : List ℕ). set x (at + i) (getD ws i 0)) e ∙ word-more ws l at i (omega arith) in
+    (omega arith, ap length new ∙ length-sets l at (take (i + 1) ws), new, n)
 
 -- One byte more.
 pub byte-more : (c : Clock) (bs l : List ℕ) (at i : ℕ) → i < length bs
@@ -79,20 +78,27 @@ pub response-laid : (l : List ℕ) (at first mark : ℕ) (ws : List ℕ)
     → sets (sets l at (first ∷ mark ∷ [])) (at + 2) ws ≡ sets l at (first ∷ mark ∷ ws)
 response-laid l at first mark ws = sets-then l at (first ∷ mark ∷ []) ws
 
--- The words that a response asks for, by its kind.
-pub plain-room : (c : Clock) (kind : Response) (rs : List ℕ) (at n : ℕ) → kind ≡ Plain → at + length (responseWidths c kind rs) ≤ n
-    → at + 2 + 8 * length rs ≤ n
-plain-room c kind rs at n e h =
-    let l : length (responseWidths c kind rs) ≡ responseWords Plain (length rs) =
-    response-widths-length c kind rs ∙ ap (λ (k : Response). responseWords k (length rs)) e in
-    omega arith
+-- The words that a response asks for, by its kind: those before its bytes, and those of its bytes after them.
+module _ (c : Clock) (kind : Response) (rs l : List ℕ) (at : ℕ) (enough : at + length (responseWidths c kind rs) ≤ length l) where
+  two-long : (first second : ℕ) (ws : List ℕ) → ws ≡ sets l at (first ∷ second ∷ []) → length ws ≡ length l
+  two-long first second ws e = ap length e ∙ length-sets l at (first ∷ second ∷ [])
 
-pub checked-room : (c : Clock) (kind : Response) (rs : List ℕ) (at n : ℕ) → kind ≡ Checked → at + length (responseWidths c kind rs) ≤ n
-    → at + 2 + 8 * (length rs + 1) ≤ n
-checked-room c kind rs at n e h =
-    let l : length (responseWidths c kind rs) ≡ responseWords Checked (length rs) =
-    response-widths-length c kind rs ∙ ap (λ (k : Response). responseWords k (length rs)) e in
-    omega arith
+  words-of : (k : Response) → kind ≡ k → length (responseWidths c kind rs) ≡ responseWords k (length rs)
+  words-of k e = response-widths-length c kind rs ∙ ap (λ (x : Response). responseWords x (length rs)) e
+
+  pub plain-room : kind ≡ Plain → at + 2 ≤ length l
+  plain-room e = omega (arith, words-of Plain e)
+
+  pub plain-after : kind ≡ Plain → (next first second : ℕ) (ws : List ℕ) → next ≡ at + 2 → ws ≡ sets l at (first ∷ second ∷ [])
+      → next + 8 * length rs ≤ length ws
+  plain-after e next first second ws n h = omega (arith, words-of Plain e, two-long first second ws h)
+
+  pub checked-room : kind ≡ Checked → at + 2 ≤ length l
+  checked-room e = omega (arith, words-of Checked e)
+
+  pub checked-after : kind ≡ Checked → (next first second : ℕ) (ws : List ℕ) → next ≡ at + 2 → ws ≡ sets l at (first ∷ second ∷ [])
+      → next + 8 * (length rs + 1) ≤ length ws
+  checked-after e next first second ws n h = omega (arith, words-of Checked e, two-long first second ws h)
 
 -- ## A frame, while its parts are laid: the space for each, and the whole of them
 

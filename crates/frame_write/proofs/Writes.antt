@@ -1,10 +1,10 @@
 -- How the tests of a call that writes decide its promise: a law for each way out, in the order of the refusals.
-use Prim.Native.Nat.{ℕ, _≤_, _<_}
+use Prim.Native.Nat.{ℕ}
 use mathlib.Core.Path.{_≡_, refl, sym, ap, _∙_}
 use mathlib.Core.Bool.{true, false}
 use mathlib.Core.List.{List}
 use lib.ListN.{length}
-use borrow.Author.Tests.{lt-ltb, le-ltb}
+use lib.Dec.{ltb}
 use Rattle.symbol.specs.declared.Clock.{Clock}
 use Rattle.symbol.specs.Clocks.{goodOf}
 use Rattle.frame.specs.declared.Response.{Response}
@@ -30,13 +30,13 @@ module _ (c : Clock) (main : List ℕ) (kind : Response) (rs entry : List ℕ) w
     refuses-37 b = promised (turnedAway 37) entry BadMessage (rw (g, b)) refl refl
 
     module _ (b : badMessage main kind rs ≡ false) where
-      pub refuses-32 : length entry < mostWords → WritePromise c main kind rs entry entry FewLentWords
+      pub refuses-32 : ltb (length entry) mostWords ≡ true → WritePromise c main kind rs entry entry FewLentWords
       unfolding writing
-      refuses-32 h = promised (turnedAway 32) entry FewLentWords (rw (g, b, lt-ltb (length entry) mostWords h)) refl refl
+      refuses-32 h = promised (turnedAway 32) entry FewLentWords (rw (g, b, h)) refl refl
 
-      pub writes : mostWords ≤ length entry → (n : ℕ) (exit : List ℕ) → n ≡ length (frameWords c main kind rs)
+      pub writes : ltb (length entry) mostWords ≡ false → (n : ℕ) (exit : List ℕ) → n ≡ length (frameWords c main kind rs)
           → exit ≡ wordsAfter (words (frameWords c main kind rs)) entry → WritePromise c main kind rs entry exit (Words n)
       unfolding writing
       writes h n exit p q =
-          promised (words (frameWords c main kind rs)) exit (Words n) (rw (g, b, le-ltb (length entry) mostWords h))
+          promised (words (frameWords c main kind rs)) exit (Words n) (rw (g, b, h))
           (ap (λ (k : ℕ). counted (Words k)) p) q

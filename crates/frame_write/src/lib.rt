@@ -1,19 +1,14 @@
 // Writing: a message becomes the words of a frame.
-ghost use Prim.Native.Nat.{_+_, _*_, _/_, _<_, _≤_};
+ghost use Prim.Native.Nat.{_+_, _*_, _<_, _≤_};
 ghost use mathlib.Core.Path.{_≡_};
-ghost use mathlib.Core.Bool.{true, false};
+ghost use mathlib.Core.Bool.{false};
 ghost use mathlib.Core.List.{[], _∷_, _++_};
 ghost use lib.ListN.{length, set};
 ghost use lib.Seq.{sets};
-ghost use lib.Dec.{eqb, ltb, leb};
-ghost use mathlib.Core.Bool.{_||_};
 ghost use Rattle.checkbyte.specs.Register.{checkFrom};
-ghost use Rattle.frame.specs.Bits.{odd, bitsOfByte};
-ghost use Rattle.symbol.specs.Sending.{bitWidth};
-ghost use Rattle.frame.specs.Writing.{bitWidths, byteWidths, responseWidths, frameWords, badMessage};
+ghost use Rattle.frame.specs.Bits.{bitsOfByte};
+ghost use Rattle.frame.specs.Writing.{bitWidths, byteWidths, responseWidths, frameWords};
 ghost use Rattle.frame.specs.WritePromise.{WritePromise};
-use frame::MOST_BYTES;
-use frame::MOST_WORDS;
 use frame::Response;
 use frame::Writing;
 use symbol::Clock;
@@ -33,53 +28,13 @@ pub fn write(
     if !symbol::good_clock(clock) {
         return Writing::BadClock;
     }
-    if bad_message(main, kind, response) {
+    if frame_words::bad_message(main, kind, response) {
         return Writing::BadMessage;
     }
-    if lent.len() < MOST_WORDS {
+    if frame_words::few_words(lent.len()) {
         return Writing::FewLentWords;
     }
     Writing::Words(put_frame(clock, main, kind, response, lent))
-}
-
-// Whether the message is empty, or a response that is asked for is, or their bytes with checks are too many.
-fn bad_message(main: &[u8], kind: Response, response: &[u8]) -> bool
-    ensures { λ r. ⌜ r ≡ badMessage (now (main .entry)) kind (now (response .entry)) ⌝ }
-{
-    let m = main.len();
-    let r = response.len();
-    if m == 0 {
-        return true;
-    }
-    if MOST_BYTES <= m {
-        return true;
-    }
-    let room = MOST_BYTES - 1 - m;
-    match kind {
-        Response::Without => false,
-        Response::Plain => bad_response(r, room),
-        Response::Checked => bad_checked(r, room),
-    }
-}
-
-// Whether a response of so many bytes is empty, or too long for the space that the main part leaves.
-fn bad_response(response: usize, room: usize) -> bool
-    ensures { λ r. ⌜ r ≡ eqb response 0 || ltb room response ⌝ }
-{
-    if response == 0 {
-        return true;
-    }
-    room < response
-}
-
-// The same for a response with a check byte of its own.
-fn bad_checked(response: usize, room: usize) -> bool
-    ensures { λ r. ⌜ r ≡ eqb response 0 || leb room response ⌝ }
-{
-    if response == 0 {
-        return true;
-    }
-    room <= response
 }
 
 // The whole frame: the opening, the SOF, the main part with its check byte, the response, the closing end.
@@ -105,25 +60,16 @@ fn put_response(clock: Clock, kind: Response, response: &[u8], lent: &mut [u32],
     match kind {
         Response::Without => at,
         Response::Plain => {
-            let first = put_eod(clock, true, lent, at);
+            let before = frame_words::before_plain(clock);
+            let first = put_two(before.eod, before.normalization, lent, at);
             put_bytes(clock, response, lent, first)
         }
         Response::Checked => {
-            let first = put_eod(clock, false, lent, at);
+            let before = frame_words::before_checked(clock);
+            let first = put_two(before.eod, before.normalization, lent, at);
             put_checked(clock, checkbyte::ALL_ONES, response, lent, first)
         }
     }
-}
-
-// The EOD and the normalization bit: a short one, which is a 1, for a response without a check byte.
-fn put_eod(clock: Clock, plain: bool, lent: &mut [u32], at: usize) -> usize
-    requires { ⌜ at + 2 ≤ length (now lent) ⌝ }
-    ensures { λ r. ⌜ r ≡ at + 2 ⌝ }
-    ensures { λ _. ⌜ now (lent .exit) ≡ sets (now (lent .entry)) at (clock .sof .0 ∷ bitWidth clock true plain .0 ∷ []) ⌝ }
-{
-    let eod = clock.sof;
-    let normalization = symbol::bit_width(clock, true, plain);
-    put_two(eod.0, normalization.0, lent, at)
 }
 
 // Bytes and their check byte, with the register that stands before them: all ones, since each part is checked alone.
@@ -152,38 +98,22 @@ fn put_bytes(clock: Clock, bytes: &[u8], lent: &mut [u32], at: usize) -> usize
     next
 }
 
-// The eight bits of a byte, the high bit first, two at a time.
+// The eight words of a byte.
 fn put_byte(clock: Clock, b: u8, lent: &mut [u32], at: usize) -> usize
     requires { ⌜ at + 8 ≤ length (now lent) ⌝ }
     ensures { λ r. ⌜ r ≡ at + 8 ⌝ }
     ensures { λ _. ⌜ now (lent .exit) ≡ sets (now (lent .entry)) at (bitWidths clock false (bitsOfByte b)) ⌝ }
 {
-    let third = put_pair(clock, b / 64, lent, at);
-    let fifth = put_pair(clock, b / 16, lent, third);
-    let seventh = put_pair(clock, b / 4, lent, fifth);
-    put_pair(clock, b, lent, seventh)
+    let words = frame_words::byte_words(clock, b);
+    let mut i = 0;
+    while i < 8 {
+        lent[at + i] = words[i];
+        i += 1;
+    }
+    at + 8
 }
 
-// The two lowest bits of a number, the higher one first: a passive interval and an active one.
-fn put_pair(clock: Clock, n: u8, lent: &mut [u32], at: usize) -> usize
-    requires { ⌜ at + 2 ≤ length (now lent) ⌝ }
-    ensures { λ r. ⌜ r ≡ at + 2 ⌝ }
-    ensures { λ _. ⌜ now (lent .exit) ≡ sets (now (lent .entry)) at (bitWidths clock false (odd (n / 2) ∷ odd n ∷ [])) ⌝ }
-{
-    let passive = width(clock, false, n / 2);
-    let active = width(clock, true, n);
-    put_two(passive, active, lent, at)
-}
-
-// The width of a number's lowest bit.
-fn width(clock: Clock, active: bool, n: u8) -> u32
-    ensures { λ r. ⌜ r ≡ bitWidth clock active (odd n) .0 ⌝ }
-{
-    let w = symbol::bit_width(clock, active, n % 2 == 1);
-    w.0
-}
-
-// Two intervals, one after the other.
+// Two words, one after the other.
 fn put_two(first: u32, second: u32, lent: &mut [u32], at: usize) -> usize
     requires { ⌜ at + 2 ≤ length (now lent) ⌝ }
     ensures { λ r. ⌜ r ≡ at + 2 ⌝ }
@@ -194,7 +124,7 @@ fn put_two(first: u32, second: u32, lent: &mut [u32], at: usize) -> usize
     at + 2
 }
 
-// One interval, at its place. Every word of a frame is laid here.
+// One word, at its place.
 fn put(width: u32, lent: &mut [u32], at: usize)
     requires { ⌜ at < length (now lent) ⌝ }
     ensures { λ _. ⌜ now (lent .exit) ≡ set (now (lent .entry)) at width ⌝ }

@@ -1,10 +1,10 @@
--- `frame_write::bad_message` meets its contract: a law for each way out.
+-- `frame_words::bad_message` meets its contract: a law for each way out.
 use mathlib.Core.Path.{sym, _∙_}
 use denote.Ref.{now}
 use Rattle.frame.specs.WidthLaws.{bad-empty, bad-long, bad-without, bad-plain, bad-checked}
 use borrow.Author.Needs.{needs}
-use Rattle.frame_write.proofs.bad_message.Statement.{statement}
-use Rattle.frame_write.proofs.bad_message.Tie as tie
+use Rattle.frame_words.proofs.bad_message.Statement.{statement}
+use Rattle.frame_words.proofs.bad_message.Tie as tie
 
 returns : tie.Need-returns
 returns c = sym (bad-empty (now (c .before .before .before .args .main)) (now (c .before .before .before .args .response)) (c .before .before .before .args .kind) (search needs))
