@@ -1,6 +1,6 @@
 -- Laws.
 -- The words of a frame: how many they are, how they join, and when a message is turned away.
-use Prim.Native.Nat.{ℕ, suc, _+_, _*_, _-_, _≤_, _<_}
+use Prim.Native.Nat.{ℕ, suc, _+_, _*_, _-_, _/_, _≤_, _<_}
 use mathlib.Core.Path.{_≡_, refl, ap, _∙_}
 use mathlib.Core.Bool.{true, false, _||_}
 use mathlib.Core.List.{List, [], _∷_, _++_}
@@ -12,11 +12,11 @@ use lib.Seq.{take-suc}
 use borrow.Author.Tests.{eq-eqb, ne-eqb, lt-ltb, le-ltb, ltb-false}
 use Rattle.laws.specs.Tests.{or-right, ltb-same, neither}
 use Rattle.symbol.specs.declared.Clock.{Clock}
-use Rattle.symbol.specs.Sending.{endWidth}
+use Rattle.symbol.specs.Sending.{bitWidth, endWidth}
 use Rattle.checkbyte.specs.Register.{checkOf, withCheck}
 use Rattle.frame.specs.declared.Response.{Response}
 use Rattle.frame.specs.declared.Response.the-variants.{Without, Plain, Checked}
-use Rattle.frame.specs.Bits.{bitsOf, bitsOfByte}
+use Rattle.frame.specs.Bits.{odd, bitsOf, bitsOfByte}
 use Rattle.frame.specs.Faults.{mostBytes}
 use Rattle.frame.specs.Writing.{bitWidths, byteWidths, responseSent, responseWidths, frameWords, emptyResponse, badMessage, mostWords}
 
@@ -24,6 +24,31 @@ use Rattle.frame.specs.Writing.{bitWidths, byteWidths, responseSent, res
 pub byte-widths-cons : (c : Clock) (b : ℕ) (bs : List ℕ) → byteWidths c (b ∷ bs) ≡ bitWidths c false (bitsOfByte b) ++ byteWidths c bs
 unfolding bitWidths bitsOf
 byte-widths-cons c b bs = refl
+
+-- No bytes have no widths.
+pub byte-widths-none : (c : Clock) → byteWidths c [] ≡ []
+unfolding bitWidths bitsOf
+byte-widths-none c = refl
+
+-- The widths of one byte are those of its bits ..
+pub byte-widths-one : (c : Clock) (b : ℕ) → byteWidths c (b ∷ []) ≡ bitWidths c false (bitsOfByte b)
+unfolding bitWidths bitsOf
+byte-widths-one c b = refl
+
+-- .. which are eight, from passive on.
+pub eight-widths : (c : Clock) (b : ℕ)
+    → bitWidths c false (bitsOfByte b)
+    ≡ bitWidth c false (odd (b / 128)) .0
+    ∷ bitWidth c true (odd (b / 64)) .0
+    ∷ bitWidth c false (odd (b / 32)) .0
+    ∷ bitWidth c true (odd (b / 16)) .0
+    ∷ bitWidth c false (odd (b / 8)) .0
+    ∷ bitWidth c true (odd (b / 4)) .0
+    ∷ bitWidth c false (odd (b / 2)) .0
+    ∷ bitWidth c true (odd b) .0
+    ∷ []
+unfolding bitWidths
+eight-widths c b = refl
 
 -- Eight widths for each byte.
 pub byte-widths-length : (c : Clock) (bs : List ℕ) → length (byteWidths c bs) ≡ 8 * length bs
@@ -65,6 +90,12 @@ response-widths-length c Checked rs =
     let h = byte-widths-length c (withCheck rs) in
     let k = with-check-length rs in
     omega arith
+
+-- The words of a frame, part after part.
+pub frame-words-are : (c : Clock) (main : List ℕ) (kind : Response) (rs : List ℕ)
+    → frameWords c main kind rs ≡ endWidth .0 ∷ c .sof .0 ∷ (byteWidths c (withCheck main) ++ (responseWidths c kind rs ++ (endWidth .0 ∷ [])))
+unfolding frameWords
+frame-words-are c main kind rs = refl
 
 -- A frame takes its two ends and its SOF, eight words for each byte of the main part with its check byte, and those of its
 -- response.

@@ -13,14 +13,13 @@ use Rattle.symbol.specs.Sending.{endWidth}
 use Rattle.checkbyte.specs.Register.{allOnes, checkFrom, checkOf, withCheck}
 use Rattle.frame.specs.declared.Response.{Response}
 use Rattle.frame.specs.declared.Response.the-variants.{Plain, Checked}
-use Rattle.frame.specs.Bits.{bitsOf, bitsOfByte}
+use Rattle.frame.specs.Bits.{bitsOfByte}
 use Rattle.frame.specs.Writing.{bitWidths, byteWidths, responseWidths, frameWords}
-use Rattle.frame.specs.WidthLaws.{byte-widths-length, byte-widths-append, byte-widths-more, with-check-length, responseWords, response-widths-length, frame-words-length}
+use Rattle.frame.specs.WidthLaws.{byte-widths-one, eight-widths, frame-words-are, byte-widths-length, byte-widths-append, byte-widths-more, with-check-length, responseWords, response-widths-length, frame-words-length}
 
 -- The words of a byte are eight.
 pub eight : (c : Clock) (b : ℕ) (ws : List ℕ) → ws ≡ bitWidths c false (bitsOfByte b) → length ws ≡ 8
-unfolding bitWidths
-eight c b ws e = ap length e
+eight c b ws e = ap length (e ∙ eight-widths c b)
 
 -- One word more.
 word-more : (ws l : List ℕ) (at i : ℕ) → i < length ws
@@ -59,13 +58,12 @@ byte-all c bs l at i h = ap (λ (rs : List ℕ). sets l at (byteWidths c rs)) (t
 pub check-laid : (c : Clock) (check : ℕ) (bs l : List ℕ) (at : ℕ)
     → sets (sets l at (byteWidths c bs)) (at + 8 * length bs) (bitWidths c false (bitsOfByte check))
     ≡ sets l at (byteWidths c (bs ++ (check ∷ [])))
-unfolding bitWidths bitsOf
 check-laid c check bs l at =
     let n : at + 8 * length bs ≡ at + length (byteWidths c bs) = omega (arith, byte-widths-length c bs) in
     let last : List ℕ = bitWidths c false (bitsOfByte check) in
     ap (λ (k : ℕ). sets (sets l at (byteWidths c bs)) k last) n
     ∙ sets-then l at (byteWidths c bs) last
-    ∙ ap (λ (ws : List ℕ). sets l at ws) (sym (byte-widths-append c bs (check ∷ [])))
+    ∙ ap (λ (ws : List ℕ). sets l at ws) (ap (λ (x : List ℕ). byteWidths c bs ++ x) (sym (byte-widths-one c check)) ∙ sym (byte-widths-append c bs (check ∷ [])))
 
 -- Where the register starts at all ones, that one is their check byte.
 pub afresh : (c : Clock) (bs l : List ℕ) (at : ℕ)
@@ -136,7 +134,6 @@ module _ (c : Clock) (main : List ℕ) (kind : Response) (rs l : List ℕ) (enou
 
         -- the whole frame
         pub frame-laid : set n closing (endWidth .0) ≡ sets l 0 (frameWords c main kind rs)
-        unfolding frameWords
         frame-laid =
             let body : List ℕ = byteWidths c (withCheck main) in
             let reply : List ℕ = responseWidths c kind rs in
@@ -148,4 +145,4 @@ module _ (c : Clock) (main : List ℕ) (kind : Response) (rs l : List ℕ) (enou
             let up-to-body : m ≡ sets l 0 (head ++ body) = laid ∙ rw (headed, at-main) (afresh c main (sets l 0 head) 2 ∙ sets-then l 0 head body) in
             let up-to-reply : n ≡ sets l 0 ((head ++ body) ++ reply) = answered ∙ rw (up-to-body, at-reply) (sets-then l 0 (head ++ body) reply) in
             rw (up-to-reply, at-close) (sets-then l 0 ((head ++ body) ++ reply) close)
-            ∙ ap (sets l 0) (append-assoc (head ++ body) reply close)
+            ∙ ap (sets l 0) (append-assoc (head ++ body) reply close ∙ sym (frame-words-are c main kind rs))

@@ -1,5 +1,5 @@
 -- `frame_words::byte_words` meets its contract: the width of each bit, the high one first.
-use Rattle.frame.specs.Writing.{bitWidths}
+use Rattle.frame.specs.WidthLaws.{eight-widths}
 use borrow.Author.Needs.{needs}
 use Rattle.frame_words.proofs.byte_words.Statement.{statement}
 use Rattle.frame_words.proofs.byte_words.Tie as tie
@@ -29,9 +29,10 @@ width-requires-8 : tie.Need-width-requires-8
 width-requires-8 c κs = search needs
 
 returns : tie.Need-returns
-unfolding bitWidths
 returns c =
+    let a = c .before .before .before .before .before .before .before .before .args in
     rw (
+      eight-widths (a .clock) (a .b),
       c .width8 .ensures,
       c .before .width7 .ensures,
       c .before .before .width6 .ensures,

@@ -1,15 +1,16 @@
 -- `frame_write::put_bytes` meets its contract. The loop's invariant: the bytes so far are laid, and the next place is after them.
 use Prim.Native.Nat.{_+_, _*_, _-_, _≤_}
 use Prim.Native.Nat.{ℕ}
-use mathlib.Core.Path.{_≡_, refl, ap, _∙_}
+use mathlib.Core.Path.{_≡_, refl, sym, ap, _∙_}
 use mathlib.Core.Bool.{false}
 use mathlib.Core.List.{List}
 use native.Mathlib.Omega.{arith}
 use lib.ListN.{length, getD, take}
 use lib.Seq.{sets, length-sets}
 use borrow.Author.Needs.{needs}
-use Rattle.frame.specs.Bits.{bitsOf, bitsOfByte}
+use Rattle.frame.specs.Bits.{bitsOfByte}
 use Rattle.frame.specs.Writing.{bitWidths, byteWidths}
+use Rattle.frame.specs.WidthLaws.{byte-widths-none}
 use Rattle.frame_write.proofs.Words.{byte-more, byte-all}
 use Rattle.frame_write.proofs.put_bytes.Statement.{statement}
 use Rattle.frame_write.proofs.put_bytes.Tie as tie
@@ -22,8 +23,7 @@ abbrev μ-loop : tie.MeasureT-loop
 μ-loop clock bytes lent₀ at next₀ i₀ lent next i = length bytes - i
 
 loop-holds : tie.Need-loop-holds Inv-loop μ-loop
-unfolding bitWidths bitsOf
-loop-holds c = (search needs, omega arith, refl, refl)
+loop-holds c = (search needs, omega arith, refl, sym (ap (sets _ _) (byte-widths-none _)))
 
 shared-slice-read-put-byte : tie.Need-shared-slice-read-put-byte Inv-loop μ-loop
 shared-slice-read-put-byte c = search needs
