@@ -120,8 +120,8 @@ pub fn before_line(input: &[u8], line: usize) -> &[u8] {
     &input[..lines.take(line - 1).map(<[u8]>::len).sum()]
 }
 
-/// The text by document 01, with what is said here of lent memory: the widths of the lines before the first bad one stand
-/// first in the words, the text first in the bytes, and where too little is lent nothing is changed.
+/// The text by document 01, with what is said here of lent memory: a good input's widths stand first in the words, the text
+/// first in the bytes. A bad input leaves the words as they were, and where too little is lent nothing is changed.
 pub fn plain_desk(input: &[u8], words: &mut [u32], bytes: &mut [u8]) -> Desk {
     let bare = |number, line, length| Desk {
         number,
@@ -131,10 +131,13 @@ pub fn plain_desk(input: &[u8], words: &mut [u32], bytes: &mut [u8]) -> Desk {
     if words.len() < DESK_WORDS || bytes.len() < DESK_BYTES {
         return bare(61, 0, 0);
     }
-    let bad = text::order(input).err();
-    let good = bad.map_or(input, |line| before_line(input, line));
-    let widths = text::order(good).map_or(Vec::new(), |order| order.recording);
-    words[..widths.len()].copy_from_slice(&widths);
+    let bad = match text::order(input) {
+        Ok(order) => {
+            words[..order.recording.len()].copy_from_slice(&order.recording);
+            None
+        }
+        Err(line) => Some(line),
+    };
     let page = text::desk(input);
     bytes[..page.len()].copy_from_slice(&page);
     match bad {

@@ -194,7 +194,7 @@ variants! {
         EmptyIsLineZero "empty-input-is-line-0"
         LastLineNamed "last-line-named"
         RefusedAfterHeader "refusal-after-a-header"
-        RefusedWordsKept "no-words-from-a-bad-input"
+        RefusedWordsLaid "words-from-a-bad-input"
         HeaderLeftOut "header-left-out"
         LabelsExchanged "labels-exchanged"
         FrameAtClosing "frame-at-its-closing"

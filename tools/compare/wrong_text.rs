@@ -3,7 +3,7 @@
 
 use super::Wrong;
 use crate::other::plain_read;
-use crate::other_row::{plain_desk, DESK_BYTES, DESK_WORDS};
+use crate::other_row::{before_line, plain_desk, DESK_BYTES, DESK_WORDS};
 use crate::ours::{Desk, Read};
 use crate::text::order;
 
@@ -187,7 +187,10 @@ pub fn desk(wrong: Wrong, input: &[u8], words: &mut [u32], bytes: &mut [u8]) -> 
     bytes[..page.len()].copy_from_slice(page.as_bytes());
     let written = words.iter().zip(&before).filter(|(a, b)| a != b).count();
     match (wrong, right.number) {
-        (Wrong::RefusedWordsKept, 62) => words.copy_from_slice(&before),
+        (Wrong::RefusedWordsLaid, 62) => {
+            let widths = order(before_line(&input, right.line)).map_or(Vec::new(), |order| order.recording);
+            words[..widths.len()].copy_from_slice(&widths);
+        }
         (Wrong::WordPastCleared, _) if written < words.len() => words[written] = 0,
         (Wrong::BytePastCleared, _) if page.len() < bytes.len() => bytes[page.len()] = 0,
         _ => {}
