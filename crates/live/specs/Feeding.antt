@@ -13,7 +13,7 @@ use Rattle.live_held.specs.Held.{noFrame, phaseNumber, outside}
 use Rattle.live_answer.specs.declared.Heard.{Heard}
 use Rattle.live_answer.specs.declared.Heard.the-variants.{PastPlaces, FewLentBytes}
 use Rattle.live_answer.specs.declared.Fed.{Fed}
-use Rattle.live_answer.specs.Answers.{longPlace}
+use Rattle.live_answer.specs.Answered.{longPlace}
 use Rattle.live_taken.specs.Taken.{fedBy, stepAt, endsAt, waiting, laidBy}
 use Rattle.live.specs.declared.Asked.{Asked}
 use Rattle.live.specs.declared.Asked.the-variants.{Quiet, Unfinished}

@@ -31,7 +31,7 @@ use Rattle.frame_machine.specs.Keeping.{SaysKept, kept-by}
 use Rattle.frame_machine.specs.Stated.{Kept, Keeping}
 use Rattle.live_held.specs.declared.Live.{Live}
 use Rattle.live_held.specs.Reader.{heldBy, beginsAnew, goesOn as goesOnWith}
-use Rattle.live_answer.specs.Answers.{stillOpen, closedFrame, faultHeard}
+use Rattle.live_answer.specs.Answered.{stillOpen, closedFrame, faultHeard}
 use Rattle.live_taken.specs.TakenLaws.{laid-closed}
 use Rattle.live_taken.specs.Taken.{fedBy, signAt, stepAt, endsAt, laidBy}
 use Rattle.live_held.specs.Held.{lastPlace, insideOf, after}
@@ -136,11 +136,11 @@ module _ (l l' : Line) (long : l' .count ≡ l .count + 1) (same : (j : ℕ) →
       (first-empty (endAt l') (v .places .next) k (omega (arith, at-k))) b e
       (subst (λ (p : ℕ). ToldSoFar l' p (xs ++ (x ∷ []))) (n ∙ sym at-k) (subst (λ (y : Outcome). ToldSoFar l' (nextOf y) (xs ++ (y ∷ []))) r (one-more (reached-on l l' long same was) (rw r g))))
 
-  -- Each event of the machine does what Takes says: it decides nothing yet,
+  -- Each event of the machine does what Takes says. It decides nothing yet ..
   pub open-takes : (entry : List ℕ) (m' : Machine) (kept' : List ℕ) → decides mostBytes l' o k ≡ false → Keeping mostBytes l' o (k + 1) m' kept' → Takes l l' xs entry entry (stillOpen v m' kept')
   open-takes entry m' kept' d b = decides-nothing refl refl (goes m' kept' d b)
 
-  -- or it closes the frame,
+  -- .. or it closes the frame ..
   pub closed-takes : (entry : List ℕ) → mostBytes ≤ length entry → (m' : Machine) (b : Bool) → endAt l' k ≡ b → SaysKept Closed (m .count) mostBytes l' o k m' kept
       → Takes l l' xs entry (laidBy Closed (v .inside) entry) (closedFrame v (heldBy (v .inside)) b)
   closed-takes entry enough m' b q s =
@@ -152,7 +152,7 @@ module _ (l l' : Line) (long : l' .count ≡ l .count + 1) (same : (j : ℕ) →
       (laid-closed (v .inside) entry enough ∙ rw (held-is, before .follows .holds, count-of st, kept-is, before .keeps .first))
       (ends-with x refl refl r b q)
 
-  -- or it is at fault.
+  -- .. or it is at fault.
   pub fault-takes : (entry : List ℕ) (f : Fault) (m' : Machine) (b : Bool) → endAt l' k ≡ b → SaysKept (Faulty f) (m .count) mostBytes l' o k m' kept
       → Takes l l' xs entry entry (faultHeard v f b)
   fault-takes entry f m' b q s =

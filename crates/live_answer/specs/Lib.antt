@@ -1,2 +1,2 @@
 -- Machinery.
-pub mod Answers
+pub mod Answered

@@ -1,7 +1,7 @@
 // What an interval answers that is not refused, by value, and the reader after it: it decides nothing, it closes a frame, or it
 // is at fault.
 ghost use mathlib.Core.Path.{_≡_};
-ghost use Rattle.live_answer.specs.Answers.{stillOpen, closedFrame, faultHeard};
+ghost use Rattle.live_answer.specs.Answered.{stillOpen, closedFrame, faultHeard};
 use frame::Fault;
 use frame::Lengths;
 use frame::MOST_BYTES;

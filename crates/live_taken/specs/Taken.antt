@@ -19,7 +19,7 @@ use Rattle.live_held.specs.declared.Live.{Live}
 use Rattle.live_held.specs.Reader.{heldBy, beginsAnew}
 use Rattle.live_answer.specs.declared.Heard.the-variants.{Nothing}
 use Rattle.live_answer.specs.declared.Fed.{Fed}
-use Rattle.live_answer.specs.Answers.{stillOpen, closedFrame, faultHeard}
+use Rattle.live_answer.specs.Answered.{stillOpen, closedFrame, faultHeard}
 
 -- what an event of the machine does, where it then holds m; `end` says whether the interval is an end
 abbrev pub fedBy : Event → Live → Machine → (end : Bool) → Fed
