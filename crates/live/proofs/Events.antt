@@ -13,8 +13,9 @@ use Rattle.frame.specs.Faults.{mostBytes}
 use Rattle.frame_machine.specs.declared.Machine.{Machine}
 use Rattle.frame_machine.specs.declared.Event.{Event}
 use Rattle.frame_machine.specs.declared.Stepped.{Stepped}
-use Rattle.frame_machine.specs.Steps.{signFor, stepOf}
-use Rattle.frame_machine.specs.Laying.{laid, laidOf, laid-enough}
+use Rattle.frame_machine.specs.Steps.{stepOf}
+use Rattle.frame_tests.specs.Shown.{signFor}
+use Rattle.frame_parts.specs.Laying.{laid, laidOf, laid-enough}
 use Rattle.live.specs.declared.Inside.{Inside}
 use Rattle.live.specs.declared.Live.{Live}
 use Rattle.live.specs.AnyReader.{held-few}

@@ -12,7 +12,7 @@ use Rattle.frame_machine.specs.declared.Phase.the-variants.{Sof, Main, Normaliz
 use Rattle.frame_machine.specs.declared.Machine.{Machine}
 use Rattle.frame_machine.specs.declared.Event.{Event}
 use Rattle.frame_machine.specs.declared.Event.the-variants.{Going, Byte, Closed, Faulty as FaultyEvent}
-use Rattle.frame_machine.specs.Parts.{partsIn, partsOf}
+use Rattle.frame_parts.specs.Parts.{partsIn, partsOf}
 use Rattle.live.specs.declared.Inside.{Inside}
 use Rattle.live.specs.declared.Live.{Live}
 use Rattle.live.specs.declared.Heard.{Heard}

@@ -18,10 +18,11 @@ use Rattle.frame_machine.specs.declared.Machine.{Machine}
 use Rattle.frame_machine.specs.declared.Event.{Event}
 use Rattle.frame_machine.specs.declared.Event.the-variants.{Going, Byte, Closed, Faulty}
 use Rattle.frame_machine.specs.declared.Stepped.{Stepped}
-use Rattle.frame_machine.specs.Steps.{fresh, signFor, stepOf}
-use Rattle.frame_machine.specs.declared.parts.Parts.{Parts}
-use Rattle.frame_machine.specs.Laying.{laid}
-use Rattle.frame_machine.specs.Parts.{partsOf}
+use Rattle.frame_machine.specs.Steps.{fresh, stepOf}
+use Rattle.frame_tests.specs.Shown.{signFor}
+use Rattle.frame_parts.specs.declared.Parts.{Parts}
+use Rattle.frame_parts.specs.Laying.{laid}
+use Rattle.frame_parts.specs.Parts.{partsOf}
 use Rattle.live.specs.declared.Inside.{Inside}
 use Rattle.live.specs.declared.Live.{Live}
 use Rattle.live.specs.declared.Heard.{Heard}

@@ -1,10 +1,9 @@
 -- `frame_write::put_byte` meets its contract. The loop's invariant: the words so far are laid.
-use Prim.Native.Nat.{ℕ, _+_, _-_, _≤_}
+use Prim.Native.Nat.{_-_, _≤_}
 use mathlib.Core.Path.{_≡_, refl, ap, _∙_}
-use mathlib.Core.List.{List}
 use native.Mathlib.Omega.{arith}
-use lib.ListN.{length, getD, set, take}
-use lib.Seq.{sets, take-all, length-sets}
+use lib.ListN.{length, take}
+use lib.Seq.{sets, take-all}
 use borrow.Author.Needs.{needs}
 use Rattle.frame_write.proofs.Words.{eight, word-next}
 use Rattle.frame_write.proofs.put_byte.Statement.{statement}
