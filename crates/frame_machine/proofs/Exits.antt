@@ -1,10 +1,9 @@
 -- What the definitions of a step give at each exit of the code's tests, from what the tests have shown on the way.
 use Prim.Native.Nat.{ℕ, _+_, _-_, _*_, _≤_, _<_}
-use mathlib.Core.Path.{_≡_, refl, sym}
+use mathlib.Core.Path.{_≡_, sym}
 use mathlib.Core.Bool.{Bool, true, false, cond, not, _&&_}
-use native.Mathlib.Omega.{arith}
 use lib.Dec.{eqb, ltb}
-use borrow.Author.Tests.{lt-ltb, le-ltb, ltb-true, ltb-false, lt-leb, eq-eqb, ne-eqb}
+use borrow.Author.Tests.{lt-ltb, le-ltb, lt-leb, eq-eqb, ne-eqb}
 use Rattle.checkbyte.specs.Register.{residue, stepOf as registerStep}
 use Rattle.frame.specs.declared.Fault.the-variants.{NoSof, LateSof, SplitByte, FewBytes, WrongCheck}
 use Rattle.frame.specs.Bits.{value}
@@ -14,17 +13,6 @@ use Rattle.frame_machine.specs.declared.Stepped.{Stepped}
 use Rattle.frame_machine.specs.declared.Event.the-variants.{Going, Byte}
 use Rattle.frame_machine.specs.declared.shut.Needed.{Needed}
 use Rattle.frame_machine.specs.Steps.{faulty, closing, begun, pushOf, responseBegun, partOf, sofPhase, bitOf, sofOf, neededOf, eodOf, closeOf}
-
--- The bytes of a part, counted without a sum that might not fit.
-pub few-short : (count began fewest : ℕ) → count < fewest → true ≡ ltb count (began + fewest)
-few-short count began fewest h = sym (lt-ltb count (began + fewest) (omega arith))
-
-pub few-by : (count began fewest : ℕ) → fewest ≤ count → ltb (count - fewest) began ≡ ltb count (began + fewest)
-few-by count began fewest h = go (ltb (count - fewest) began) refl
-  where
-    go : (b : Bool) → ltb (count - fewest) began ≡ b → b ≡ ltb count (began + fewest)
-    go true e = sym (lt-ltb count (began + fewest) (omega (arith, ltb-true (count - fewest) began e)))
-    go false e = sym (le-ltb count (began + fewest) (omega (arith, ltb-false (count - fewest) began e)))
 
 -- A bit of a byte. The bits of the byte so far are `bits`.
 module _ (limit : ℕ) (m : Machine) (one : Bool) where

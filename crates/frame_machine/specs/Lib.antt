@@ -1,6 +1,5 @@
 -- Definitions.
 pub mod Holding
-pub mod Laying
 pub mod Stated
 -- Laws.
 pub mod Meaning
@@ -10,10 +9,8 @@ pub mod Does
 pub mod BitDoes
 pub mod CloseDoes
 pub mod StepDoes
-pub mod PartLaws
 pub mod Following
 pub mod Keeping
 pub mod Room
 -- Machinery.
 pub mod Steps
-pub mod Parts

@@ -8,7 +8,7 @@ use Rattle.frame.specs.declared.Sign.the-variants.{Bit, Shut, Sof, Wrong}
 use Rattle.frame.specs.Signs.{Sign, wrong, sof, bit, shut}
 use Rattle.frame.specs.Line.{signOf}
 use Rattle.frame.specs.ReadPromise.{faultNumber}
-use Rattle.frame_machine.specs.Steps.{signFor}
+use Rattle.frame_tests.specs.Shown.{signFor}
 
 -- what a sign that is told means: a fault by its number
 abbrev pub meaningOf : Told → Sign

@@ -3,11 +3,9 @@
 use Prim.Native.Nat.{ℕ, _+_, _-_, _*_}
 use mathlib.Core.Bool.{Bool, true, false, cond, not, _&&_}
 use lib.Dec.{eqb, leb, ltb}
-use Rattle.symbol.specs.declared.Symbol.{Symbol}
-use Rattle.symbol.specs.declared.Symbol.the-variants.{Noise as NoiseWidth, Bit0, Bit1, Eod, Sof as SofWidth, Eof, Ifs, Break as BreakWidth, Stuck as StuckWidth}
 use Rattle.checkbyte.specs.Register.{allOnes, residue, stepOf as registerStep}
 use Rattle.frame.specs.declared.Fault.{Fault}
-use Rattle.frame.specs.declared.Fault.the-variants.{Noise, NoSof, Break, Stuck, LateSof, SplitByte, FewBytes, WrongCheck, EodAfterResponse, ThirteenthByte}
+use Rattle.frame.specs.declared.Fault.the-variants.{NoSof, LateSof, SplitByte, FewBytes, WrongCheck, EodAfterResponse, ThirteenthByte}
 use Rattle.frame.specs.declared.Sign.{Sign}
 use Rattle.frame.specs.declared.Sign.the-variants.{Bit, Shut, Sof as Start, Wrong}
 use Rattle.frame.specs.Bits.{value}
@@ -111,18 +109,6 @@ closeOf m eod =
     (cond (ltb (m .count) (m .began + neededOf (m .phase) .fewest)) (faulty m FewBytes)
     (cond (neededOf (m .phase) .checked && not (eqb (m .register) residue)) (faulty m WrongCheck)
     (cond eod (eodOf m) (closing m))))
-
--- what a symbol shows inside a frame
-abbrev pub signFor : Symbol → Sign
-signFor NoiseWidth = Wrong Noise
-signFor Bit0 = Bit false
-signFor Bit1 = Bit true
-signFor Eod = Shut true
-signFor SofWidth = Start
-signFor Eof = Shut false
-signFor Ifs = Shut false
-signFor BreakWidth = Wrong Break
-signFor StuckWidth = Wrong Stuck
 
 -- one interval more, by what it shows, in a frame of at most `limit` bytes
 abbrev pub stepOf : (limit : ℕ) → Machine → Sign → Stepped

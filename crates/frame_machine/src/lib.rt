@@ -1,20 +1,15 @@
 // The frame machine. It is told what the intervals after an opening show, one after the other, and says of each whether the
 // frame goes on, has one byte more, is closed, or is at fault. It sees no widths and keeps no bytes: whoever drives it does.
 // How many bytes a frame may have it is told as well.
-mod parts;
 mod shut;
 
-pub use parts::Parts;
-pub use parts::lay;
-pub use parts::parts_of;
 ghost use mathlib.Core.Path.{_≡_};
 ghost use Prim.Native.Nat.{_<_};
 ghost use Rattle.frame.specs.Bits.{value};
-ghost use Rattle.frame_machine.specs.Steps.{faulty, begun, pushOf, responseBegun, partOf, sofPhase, bitOf, sofOf, signFor, stepOf, fresh};
+ghost use Rattle.frame_machine.specs.Steps.{faulty, begun, pushOf, responseBegun, partOf, sofPhase, bitOf, sofOf, stepOf, fresh};
 use frame::Fault;
 use frame::Sign;
 use shut::close_part;
-use symbol::Symbol;
 
 // Where the next interval stands in the frame: at the place of the SOF or of the normalization bit, in the main part, or
 // in a response without or with a check byte.
@@ -209,23 +204,6 @@ fn sof(machine: Machine) -> Stepped
         return begin(machine, Phase::Main);
     }
     fail(machine, Fault::LateSof)
-}
-
-// What a symbol shows inside a frame.
-pub fn sign_of(symbol: Symbol) -> Sign
-    ensures { λ r. ⌜ r ≡ signFor symbol ⌝ }
-{
-    match symbol {
-        Symbol::Noise => Sign::Wrong(Fault::Noise),
-        Symbol::Bit0 => Sign::Bit(false),
-        Symbol::Bit1 => Sign::Bit(true),
-        Symbol::Eod => Sign::Shut(true),
-        Symbol::Sof => Sign::Sof,
-        Symbol::Eof => Sign::Shut(false),
-        Symbol::Ifs => Sign::Shut(false),
-        Symbol::Break => Sign::Wrong(Fault::Break),
-        Symbol::Stuck => Sign::Wrong(Fault::Stuck),
-    }
 }
 
 // One interval more, in a frame of at most `limit` bytes.

@@ -1,9 +1,5 @@
 // The EOD or the end after a part: whether the part may be closed there, and what follows.
 ghost use mathlib.Core.Path.{_≡_};
-ghost use mathlib.Core.Bool.{_&&_, not};
-ghost use Prim.Native.Nat.{_+_};
-ghost use lib.Dec.{eqb, ltb};
-ghost use Rattle.checkbyte.specs.Register.{residue};
 ghost use Rattle.frame_machine.specs.Steps.{closing, needing, neededOf, eodOf, closeOf};
 use crate::Event;
 use crate::Machine;
@@ -58,26 +54,6 @@ fn needed_of(phase: Phase) -> Needed
     }
 }
 
-// Whether the check byte of a part that has one is wrong, by what the register has come to over the part.
-fn wrong_check(checked: bool, register: u8) -> bool
-    ensures { λ r. ⌜ r ≡ (checked && not (eqb register residue)) ⌝ }
-{
-    if checked {
-        return register != checkbyte::RESIDUE;
-    }
-    false
-}
-
-// Whether a part has fewer bytes than are asked of it.
-fn too_few(count: usize, began: usize, fewest: usize) -> bool
-    ensures { λ r. ⌜ r ≡ ltb count (began + fewest) ⌝ }
-{
-    if count < fewest {
-        return true;
-    }
-    count - fewest < began
-}
-
 // What follows an EOD that is not at fault itself: a response after the main part, and nothing after a response.
 fn after_eod(machine: Machine) -> Stepped
     ensures { λ r. ⌜ r ≡ eodOf machine ⌝ }
@@ -101,10 +77,10 @@ pub fn close_part(machine: Machine, eod: bool) -> Stepped
     if machine.partial != NO_BITS {
         return fail(machine, Fault::SplitByte);
     }
-    if too_few(machine.count, machine.began, needed.fewest) {
+    if frame_tests::too_few(machine.count, machine.began, needed.fewest) {
         return fail(machine, Fault::FewBytes);
     }
-    if wrong_check(needed.checked, machine.register) {
+    if frame_tests::wrong_check(needed.checked, machine.register) {
         return fail(machine, Fault::WrongCheck);
     }
     if eod {

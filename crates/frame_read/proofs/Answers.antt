@@ -21,13 +21,14 @@ use Rattle.frame.specs.Outcomes.{reads-31, reads-32, reads-by}
 use Rattle.frame_machine.specs.declared.Machine.{Machine}
 use Rattle.frame_machine.specs.declared.Event.{Event}
 use Rattle.frame_machine.specs.declared.Stepped.{Stepped}
-use Rattle.frame_machine.specs.Steps.{signFor, stepOf}
+use Rattle.frame_machine.specs.Steps.{stepOf}
+use Rattle.frame_tests.specs.Shown.{signFor}
 use Rattle.frame_machine.specs.Meaning.{meaningOf, sign-means}
 use Rattle.frame_machine.specs.Holding.{soFar, holding}
 use Rattle.frame_machine.specs.HoldingLaws.{count-of}
-use Rattle.frame_machine.specs.Laying.{laidOf, laid-enough}
-use Rattle.frame_machine.specs.Parts.{partsOf}
-use Rattle.frame_machine.specs.PartLaws.{parts-held}
+use Rattle.frame_parts.specs.Laying.{laidOf, laid-enough}
+use Rattle.frame_parts.specs.Parts.{partsOf}
+use Rattle.frame_parts.specs.PartLaws.{parts-held}
 use Rattle.frame_machine.specs.StepDoes.{some-fault}
 use Rattle.frame_machine.specs.Keeping.{Closing, SaysKept, kept-by}
 use Rattle.frame_machine.specs.Stated.{Keeping}

@@ -11,7 +11,7 @@ use Rattle.frame.specs.Reading.{Outcome}
 use Rattle.frame.specs.ReadPromise.{told, tells, lentAfter}
 use Rattle.frame_read.specs.declared.Found.{Found}
 use Rattle.frame_read.specs.declared.Found.the-variants.{At, Nowhere}
-use Rattle.frame_machine.specs.declared.parts.Parts.{Parts}
+use Rattle.frame_parts.specs.declared.Parts.{Parts}
 
 -- what a search answers for a first place
 abbrev pub foundBy : FoundPlace → Found

@@ -8,7 +8,7 @@ ghost use Rattle.frame.specs.Faults.{mostBytes};
 ghost use Rattle.frame.specs.Line.{single, at, opening as openingOf};
 ghost use Rattle.frame.specs.Reading.{decided, readBy};
 ghost use Rattle.frame.specs.ReadPromise.{ReadPromise};
-ghost use Rattle.frame_machine.specs.Parts.{partsOf};
+ghost use Rattle.frame_parts.specs.Parts.{partsOf};
 ghost use Rattle.frame_read.specs.Answering.{foundBy, frameOf, Meets};
 use frame::MOST_BYTES;
 use frame::Reading;
@@ -45,7 +45,7 @@ fn opening(intervals: &[u32], from: usize) -> Found
 fn framed(machine: Machine, opening: usize, closing: usize) -> Reading
     ensures { λ r. ⌜ r ≡ frameOf (partsOf machine) opening closing ⌝ }
 {
-    let parts = frame_machine::parts_of(machine);
+    let parts = frame_parts::parts_of(machine);
     let lengths = parts.lengths;
     let response = parts.response;
     Reading::Frame {
@@ -68,7 +68,7 @@ fn read_open(intervals: &[u32], opening: usize, lent: &mut [u8]) -> Reading
     while i < intervals.len() {
         let symbol = symbol::class(i % 2 == 1, Micros(intervals[i]));
         let at = held.count;
-        let stepped = frame_machine::step(MOST_BYTES, held, frame_machine::sign_of(symbol));
+        let stepped = frame_machine::step(MOST_BYTES, held, frame_tests::sign_of(symbol));
         let event = stepped.event;
         let next = stepped.machine;
         held = next;
@@ -79,7 +79,7 @@ fn read_open(intervals: &[u32], opening: usize, lent: &mut [u8]) -> Reading
             }
             Event::Closed => {
                 let count = held.count;
-                frame_machine::lay(kept, count, lent);
+                frame_parts::lay(kept, count, lent);
                 return framed(held, opening, i);
             }
             Event::Faulty(fault) => {

@@ -10,7 +10,7 @@ use Rattle.frame_machine.specs.declared.Phase.the-variants.{Sof, Main, Normaliz
 use Rattle.frame_machine.specs.declared.Machine.{Machine}
 use Rattle.frame_machine.specs.declared.Event.{Event}
 use Rattle.frame_machine.specs.declared.Event.the-variants.{Going, Byte, Closed, Faulty as FaultyEvent}
-use Rattle.frame_machine.specs.Parts.{partsIn, partsOf}
+use Rattle.frame_parts.specs.Parts.{partsIn, partsOf}
 use Rattle.live_held.specs.declared.Inside.{Inside}
 use Rattle.live_held.specs.declared.Live.{Live}
 use Rattle.live_answer.specs.declared.Heard.{Heard}

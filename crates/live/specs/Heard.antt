@@ -20,7 +20,7 @@ use Rattle.frame.specs.Longer.{shows-same}
 use Rattle.frame_machine.specs.declared.Phase.{Phase}
 use Rattle.frame_machine.specs.declared.Phase.the-variants.{Sof, Main, Normalization, Plain, Checked}
 use Rattle.frame_machine.specs.declared.Machine.{Machine}
-use Rattle.frame_machine.specs.Steps.{signFor}
+use Rattle.frame_tests.specs.Shown.{signFor}
 use Rattle.frame_machine.specs.Meaning.{meaningOf, sign-means}
 use Rattle.live_held.specs.declared.Inside.{Inside}
 use Rattle.live_held.specs.declared.Live.{Live}

@@ -23,7 +23,7 @@ use Rattle.frame_machine.specs.declared.Event.the-variants.{Going, Byte, Closed
 use Rattle.frame_machine.specs.Steps.{stepOf}
 use Rattle.frame_machine.specs.Holding.{soFar, holding}
 use Rattle.frame_machine.specs.HoldingLaws.{count-of}
-use Rattle.frame_machine.specs.PartLaws.{parts-held}
+use Rattle.frame_parts.specs.PartLaws.{parts-held}
 use Rattle.frame_machine.specs.Meaning.{meaningOf}
 use Rattle.frame_machine.specs.StepDoes.{some-fault}
 use Rattle.frame_machine.specs.Following.{held-few, held-began}

@@ -10,7 +10,7 @@ use Rattle.frame.specs.Faults.{mostBytes}
 use Rattle.frame.specs.Reading.{good, quiet}
 use Rattle.frame.specs.Worked.{ffff, ffffRead}
 use Rattle.frame_machine.specs.Steps.{pushOf, bitOf, sofOf, closeOf}
-use Rattle.frame_machine.specs.Laying.{laidOf}
+use Rattle.frame_parts.specs.Laying.{laidOf}
 use Rattle.live_held.specs.Reader.{heldBy, beginsAnew, goesOn}
 use Rattle.live.specs.Feeding.{started, takenOf, fedOf, lentOf, askedOf}
 use Rattle.live_held.specs.Held.{insideOf, outside, after}

@@ -6,8 +6,8 @@ use mathlib.Core.List.{List}
 use Rattle.units.specs.declared.LongPlace.{LongPlace}
 use Rattle.frame.specs.declared.Fault.{Fault}
 use Rattle.frame_machine.specs.declared.Machine.{Machine}
-use Rattle.frame_machine.specs.declared.parts.Parts.{Parts}
-use Rattle.frame_machine.specs.Parts.{partsOf}
+use Rattle.frame_parts.specs.declared.Parts.{Parts}
+use Rattle.frame_parts.specs.Parts.{partsOf}
 use Rattle.live_held.specs.declared.Live.{Live}
 use Rattle.live_held.specs.Reader.{beginsAnew, goesOn}
 use Rattle.live_answer.specs.declared.Heard.{Heard}

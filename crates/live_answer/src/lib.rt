@@ -53,7 +53,7 @@ pub fn closed(live: Live, machine: Machine, end: bool) -> Fed
     let places = live.places;
     let closing = places.next;
     let opening = places.opening;
-    let parts = frame_machine::parts_of(machine);
+    let parts = frame_parts::parts_of(machine);
     let lengths = parts.lengths;
     let response = parts.response;
     Fed {

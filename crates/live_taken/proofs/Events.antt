@@ -11,7 +11,8 @@ use Rattle.frame.specs.Faults.{mostBytes}
 use Rattle.frame_machine.specs.declared.Machine.{Machine}
 use Rattle.frame_machine.specs.declared.Event.{Event}
 use Rattle.frame_machine.specs.declared.Stepped.{Stepped}
-use Rattle.frame_machine.specs.Steps.{signFor, stepOf}
+use Rattle.frame_machine.specs.Steps.{stepOf}
+use Rattle.frame_tests.specs.Shown.{signFor}
 use Rattle.live_held.specs.declared.Live.{Live}
 use Rattle.live_held.specs.Reader.{heldBy}
 use Rattle.live_taken.specs.Taken.{fedBy, laidBy, stepAt, endsAt}

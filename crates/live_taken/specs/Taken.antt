@@ -12,8 +12,9 @@ use Rattle.frame_machine.specs.declared.Machine.{Machine}
 use Rattle.frame_machine.specs.declared.Event.{Event}
 use Rattle.frame_machine.specs.declared.Event.the-variants.{Going, Byte, Closed, Faulty}
 use Rattle.frame_machine.specs.declared.Stepped.{Stepped}
-use Rattle.frame_machine.specs.Steps.{signFor, stepOf}
-use Rattle.frame_machine.specs.Laying.{laidOf}
+use Rattle.frame_machine.specs.Steps.{stepOf}
+use Rattle.frame_tests.specs.Shown.{signFor}
+use Rattle.frame_parts.specs.Laying.{laidOf}
 use Rattle.live_held.specs.declared.Inside.{Inside}
 use Rattle.live_held.specs.declared.Live.{Live}
 use Rattle.live_held.specs.Reader.{heldBy, beginsAnew}

@@ -7,7 +7,7 @@ use native.Mathlib.Omega.{arith}
 use lib.ListN.{length}
 use Rattle.frame.specs.Faults.{mostBytes}
 use Rattle.frame_machine.specs.declared.Event.the-variants.{Closed}
-use Rattle.frame_machine.specs.Laying.{laid, laid-enough}
+use Rattle.frame_parts.specs.Laying.{laid, laid-enough}
 use Rattle.live_held.specs.declared.Inside.{Inside}
 use Rattle.live_held.specs.HeldLaws.{held-few}
 use Rattle.live_held.specs.Reader.{heldBy}

@@ -47,7 +47,7 @@ pub fn inside_frame(live: Live, width: Micros, lent: &mut [u8]) -> Fed
     let end = symbol::is_end(active, width);
     let held = held_by(inside);
     let count = held.count;
-    let sign = frame_machine::sign_of(symbol::class(active, width));
+    let sign = frame_tests::sign_of(symbol::class(active, width));
     let stepped = frame_machine::step(MOST_BYTES, held, sign);
     let event = stepped.event;
     let then = stepped.machine;
@@ -58,7 +58,7 @@ pub fn inside_frame(live: Live, width: Micros, lent: &mut [u8]) -> Fed
             going(live, then, kept)
         }
         Event::Closed => {
-            frame_machine::lay(kept, count, lent);
+            frame_parts::lay(kept, count, lent);
             closed(live, held, end)
         }
         Event::Faulty(fault) => at_fault(live, fault, end),

@@ -1,13 +1,13 @@
 // The parts of a frame that closes: what the answer for it says of them, and their bytes, wherever the frame was read from.
 ghost use mathlib.Core.Path.{_≡_};
 ghost use Prim.Native.Nat.{_-_};
-ghost use Rattle.frame_machine.specs.Laying.{laidOf};
-ghost use Rattle.frame_machine.specs.Parts.{alone, answered, partsOf};
-use crate::Machine;
-use crate::Phase;
+ghost use Rattle.frame_parts.specs.Laying.{laidOf};
+ghost use Rattle.frame_parts.specs.Parts.{alone, answered, partsOf};
 use frame::Lengths;
 use frame::MOST_BYTES;
 use frame::Response;
+use frame_machine::Machine;
+use frame_machine::Phase;
 
 // How many bytes each part has, its check byte included, and what response there is.
 pub struct Parts {

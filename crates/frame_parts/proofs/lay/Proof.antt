@@ -1,4 +1,4 @@
--- `frame_machine::lay` meets its contract: the bytes kept are copied, as many as are counted, or none.
+-- `frame_parts::lay` meets its contract: the bytes kept are copied, as many as are counted, or none.
 use denote.Ref.{now}
 use mathlib.Core.Path.{_≡_, sym, _∙_}
 use native.Mathlib.Omega.{arith}
@@ -6,10 +6,10 @@ use lib.ListN.{length, take}
 use lib.Seq.{length-take-le}
 use borrow.Author.Tests.{le-leb, lt-leb}
 use Rattle.frame.specs.Faults.{mostBytes}
-use Rattle.frame_machine.specs.Laying.{laidOf, laid-enough, laid-first}
+use Rattle.frame_parts.specs.Laying.{laidOf, laid-enough, laid-first}
 use borrow.Author.Needs.{needs}
-use Rattle.frame_machine.proofs.parts.lay.Statement.{statement}
-use Rattle.frame_machine.proofs.parts.lay.Tie as tie
+use Rattle.frame_parts.proofs.lay.Statement.{statement}
+use Rattle.frame_parts.proofs.lay.Tie as tie
 
 array-share-prefix-kept : tie.Need-array-share-prefix-kept
 array-share-prefix-kept c = search needs

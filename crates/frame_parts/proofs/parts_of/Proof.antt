@@ -1,7 +1,7 @@
--- `frame_machine::parts_of` meets its contract: each arm is the line of the definition for its phase.
+-- `frame_parts::parts_of` meets its contract: each arm is the line of the definition for its phase.
 use borrow.Author.Needs.{needs}
-use Rattle.frame_machine.proofs.parts.parts_of.Statement.{statement}
-use Rattle.frame_machine.proofs.parts.parts_of.Tie as tie
+use Rattle.frame_parts.proofs.parts_of.Statement.{statement}
+use Rattle.frame_parts.proofs.parts_of.Tie as tie
 
 enum-told : tie.Need-enum-told
 enum-told c = search needs

@@ -3,10 +3,10 @@
 use Prim.Native.Nat.{_-_}
 use Rattle.frame.specs.declared.Response.{Response}
 use Rattle.frame.specs.declared.Response.the-variants.{Without, Plain as PlainResponse, Checked as CheckedResponse}
 use Rattle.frame_machine.specs.declared.Phase.{Phase}
 use Rattle.frame_machine.specs.declared.Phase.the-variants.{Sof, Main, Normalization, Plain, Checked}
 use Rattle.frame_machine.specs.declared.Machine.{Machine}
-use Rattle.frame_machine.specs.declared.parts.Parts.{Parts}
+use Rattle.frame_parts.specs.declared.Parts.{Parts}
 
 -- without a response all bytes are the main part's
 abbrev pub alone : Machine → Parts

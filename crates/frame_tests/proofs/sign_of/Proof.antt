@@ -1,9 +1,9 @@
--- `frame_machine::sign_of` meets its contract, symbol by symbol.
+-- `frame_tests::sign_of` meets its contract, symbol by symbol.
 use mathlib.Core.Path.{ap, sym}
-use Rattle.frame_machine.specs.Steps.{signFor}
+use Rattle.frame_tests.specs.Shown.{signFor}
 use borrow.Author.Needs.{needs}
-use Rattle.frame_machine.proofs.sign_of.Statement.{statement}
-use Rattle.frame_machine.proofs.sign_of.Tie as tie
+use Rattle.frame_tests.proofs.sign_of.Statement.{statement}
+use Rattle.frame_tests.proofs.sign_of.Tie as tie
 
 enum-told : tie.Need-enum-told
 enum-told c = search needs

@@ -8,9 +8,9 @@ use lib.ListN.{length, length-append}
 use Rattle.frame.specs.Bits.{bytes}
 use Rattle.frame.specs.Standing.{plain, checked, Standing, atSof, inMain, atNormalization, inResponse}
 use Rattle.frame.specs.Faults.{facts, mainBytes, responseBytes}
-use Rattle.frame_machine.specs.declared.parts.Parts.{Parts}
+use Rattle.frame_parts.specs.declared.Parts.{Parts}
 use Rattle.frame_machine.specs.Holding.{holding}
-use Rattle.frame_machine.specs.Parts.{partsOf}
+use Rattle.frame_parts.specs.Parts.{partsOf}
 
 past : (a b : List ℕ) → length (a ++ b) - length a ≡ length b
 past a b = rw (length-append a b) (omega arith)

@@ -1,7 +1,7 @@
--- `frame_machine::shut::wrong_check` meets its contract.
+-- `frame_tests::wrong_check` meets its contract.
 use borrow.Author.Needs.{needs}
-use Rattle.frame_machine.proofs.shut.wrong_check.Statement.{statement}
-use Rattle.frame_machine.proofs.shut.wrong_check.Tie as tie
+use Rattle.frame_tests.proofs.wrong_check.Statement.{statement}
+use Rattle.frame_tests.proofs.wrong_check.Tie as tie
 
 returns : tie.Need-returns
 returns c = cc

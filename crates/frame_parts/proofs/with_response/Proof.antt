@@ -1,7 +1,7 @@
--- `frame_machine::with_response` meets its contract: the response's bytes are those from where its part begins on.
+-- `frame_parts::with_response` meets its contract: the response's bytes are those from where its part begins on.
 use borrow.Author.Needs.{needs}
-use Rattle.frame_machine.proofs.parts.with_response.Statement.{statement}
-use Rattle.frame_machine.proofs.parts.with_response.Tie as tie
+use Rattle.frame_parts.proofs.with_response.Statement.{statement}
+use Rattle.frame_parts.proofs.with_response.Tie as tie
 
 past-requires : tie.Need-past-requires
 past-requires c κs = search needs

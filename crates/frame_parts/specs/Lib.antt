@@ -1,0 +1,6 @@
+-- Definitions.
+pub mod Laying
+-- Laws.
+pub mod PartLaws
+-- Machinery.
+pub mod Parts

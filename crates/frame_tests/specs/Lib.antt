@@ -1,0 +1,2 @@
+-- Machinery.
+pub mod Shown
