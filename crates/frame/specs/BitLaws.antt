@@ -27,6 +27,11 @@ pub left-over-none : shiftedIn 1 (leftOver []) ≡ 1
 unfolding leftOver shiftedIn
 left-over-none = refl
 
+-- No bits shift nothing in.
+pub shifted-none : (n : ℕ) → shiftedIn n [] ≡ n
+unfolding shiftedIn
+shifted-none n = refl
+
 -- One bit more after them doubles the number and adds the bit.
 pub shifted-more : (n : ℕ) (bits : List Bool) (b : Bool) → shiftedIn n (bits ++ (b ∷ [])) ≡ shiftedIn n bits * 2 + value b
 unfolding shiftedIn

@@ -14,10 +14,11 @@ use Rattle.checkbyte.specs.Register.{allOnes, registerFrom}
 use Rattle.frame.specs.declared.Fault.the-variants.{NoSof, ThirteenthByte}
 use Rattle.frame.specs.Signs.{bit}
 use Rattle.frame.specs.Bits.{value, bytes}
-use Rattle.frame.specs.BitLaws.{shifted-more, OneMore, isLeft, isWhole, one-more, register-more}
+use Rattle.frame.specs.BitLaws.{bytes-none, left-over-none, shifted-none, shifted-more, OneMore, isLeft, isWhole, one-more, register-more}
 use Rattle.frame.specs.ReadStated.{leftOver, shiftedIn}
 use Rattle.frame.specs.Standing.{plain, checked, Standing, atSof, inMain, atNormalization, inResponse, moved}
 use Rattle.frame.specs.Faults.{fault}
+use Rattle.frame.specs.FaultLaws.{bit-fault}
 use Rattle.frame_machine.specs.declared.Phase.{Phase}
 use Rattle.frame_machine.specs.declared.Phase.the-variants.{Main, Plain, Checked}
 use Rattle.frame_machine.specs.declared.Machine.{Machine}
@@ -34,10 +35,6 @@ use Rattle.frame_machine.specs.Does.{Does, faults, goes, stores}
 data Pushed (all all′ : List ℕ) (next : Machine) (r : Stepped) : Type 0 where
   leaves : r ≡ record { machine = next; event = Going } → all′ ≡ all → Pushed all all′ next r
   fills : (n : ℕ) → r ≡ record { machine = next; event = Byte n } → all′ ≡ all ++ (n ∷ []) → Pushed all all′ next r
-
-no-bit : shiftedIn 1 [] ≡ 1
-unfolding shiftedIn
-no-bit = refl
 
 one-longer : (bs : List ℕ) (n : ℕ) → length (bs ++ (n ∷ [])) ≡ length bs + 1
 one-longer bs n = length-append bs (n ∷ [])
@@ -57,7 +54,7 @@ push-by limit phase part before all all′ b h same more = go (one-more part b)
     go (isWhole n s e f) =
         let off : 256 + n - 256 ≡ n = omega arith in
         fills n
-        (rw (lt-leb limit (length all) h, s, le-ltb (256 + n) 256 (omega arith), off, more n e, one-longer all n, f, no-bit, e, register-more allOnes (bytes part) n))
+        (rw (lt-leb limit (length all) h, s, le-ltb (256 + n) 256 (omega arith), off, more n e, one-longer all n, f, shifted-none 1, e, register-more allOnes (bytes part) n))
         (more n e)
 
 -- A byte too many is at fault.
@@ -84,8 +81,7 @@ bit-part limit st b row few more = go (eq-or-lt-of-le few)
 
 -- the bytes of the main part alone, with no response after them
 alone : (bs : List ℕ) → bs ++ bytes [] ≡ bs
-unfolding bytes
-alone bs = append-nil bs
+alone bs = rw bytes-none (append-nil bs)
 
 in-main : (limit : ℕ) (m : List Bool) (b : Bool) → length (soFar (inMain m)) < limit
     → Pushed (soFar (inMain m)) (soFar (inMain (m ++ (b ∷ [])))) (holding (inMain (m ++ (b ∷ [])))) (pushOf limit (holding (inMain m)) b)
@@ -105,10 +101,10 @@ in-response limit phase m r b h =
 
 -- A bit, from every standing.
 pub bit-does : (limit : ℕ) (st : Standing) (one : Bool) → length (soFar st) ≤ limit → Does limit st (bit one) (bitOf limit (holding st) one)
-unfolding bitOf fault holding leftOver shiftedIn registerFrom bytes
-bit-does limit atSof one h = faults NoSof refl refl
-bit-does limit (inMain m) one h = bit-part limit (inMain m) one refl h (in-main limit m one)
-bit-does limit (atNormalization m) true h = goes refl refl (rw (append-nil (bytes m))) refl
-bit-does limit (atNormalization m) false h = goes refl refl (rw (append-nil (bytes m))) refl
-bit-does limit (inResponse plain m r) one h = bit-part limit (inResponse plain m r) one refl h (in-response limit Plain m r one)
-bit-does limit (inResponse checked m r) one h = bit-part limit (inResponse checked m r) one refl h (in-response limit Checked m r one)
+unfolding bitOf holding registerFrom
+bit-does limit atSof one h = faults NoSof (bit-fault limit atSof one) refl
+bit-does limit (inMain m) one h = bit-part limit (inMain m) one (bit-fault limit (inMain m) one) h (in-main limit m one)
+bit-does limit (atNormalization m) true h = goes (bit-fault limit (atNormalization m) true) refl (rw (left-over-none, bytes-none, append-nil (bytes m))) refl
+bit-does limit (atNormalization m) false h = goes (bit-fault limit (atNormalization m) false) refl (rw (left-over-none, bytes-none, append-nil (bytes m))) refl
+bit-does limit (inResponse plain m r) one h = bit-part limit (inResponse plain m r) one (bit-fault limit (inResponse plain m r) one) h (in-response limit Plain m r one)
+bit-does limit (inResponse checked m r) one h = bit-part limit (inResponse checked m r) one (bit-fault limit (inResponse checked m r) one) h (in-response limit Checked m r one)

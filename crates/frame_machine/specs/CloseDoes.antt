@@ -12,8 +12,7 @@ use Rattle.checkbyte.specs.Register.{registerOf, registerFrom, residue}
 use Rattle.frame.specs.declared.Fault.the-variants.{SplitByte, FewBytes, WrongCheck, EodAfterResponse}
 use Rattle.frame.specs.Signs.{shut, shuts}
 use Rattle.frame.specs.Bits.{bytes}
-use Rattle.frame.specs.BitLaws.{left-none}
-use Rattle.frame.specs.ReadStated.{leftOver, shiftedIn}
+use Rattle.frame.specs.BitLaws.{bytes-none, left-over-none, left-none}
 use Rattle.frame.specs.Standing.{plain, checked, Standing, atSof, inMain, atNormalization, inResponse}
 use Rattle.frame.specs.Faults.{facts, partBytes, checksOut, whole, fault}
 use Rattle.frame.specs.StandingLaws.{counted-shut}
@@ -98,10 +97,10 @@ end-does limit st = shut-does limit st false (λ f. closes f refl refl (counted-
 
 -- An EOD goes on to the response, or is at fault after one.
 after-eod : (limit : ℕ) (st : Standing) → fault limit st (shut true) ≡ cond (facts st .responding) 19 0 → Does limit st (shut true) (eodOf (holding st))
-unfolding holding leftOver shiftedIn registerFrom bytes
-after-eod limit atSof f = goes f refl refl refl
-after-eod limit (inMain m) f = goes f refl (rw (append-nil m, append-nil (bytes m))) (rw (append-nil m))
-after-eod limit (atNormalization m) f = goes f refl (rw (append-nil (bytes m))) refl
+unfolding holding registerFrom
+after-eod limit atSof f = goes f refl (rw (left-over-none, bytes-none)) refl
+after-eod limit (inMain m) f = goes f refl (rw (left-over-none, bytes-none, append-nil m, append-nil (bytes m))) (rw (append-nil m))
+after-eod limit (atNormalization m) f = goes f refl (rw (left-over-none, bytes-none, append-nil (bytes m))) refl
 after-eod limit (inResponse plain m r) f = faults EodAfterResponse f refl
 after-eod limit (inResponse checked m r) f = faults EodAfterResponse f refl
 

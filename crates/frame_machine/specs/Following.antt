@@ -9,12 +9,13 @@ use native.Mathlib.Omega.{arith}
 use lib.ListN.{length, length-append}
 use Rattle.frame.specs.declared.Fault.{Fault}
 use Rattle.frame.specs.declared.Sign.{Sign}
-use Rattle.frame.specs.Bits.{bytes}
 use Rattle.frame.specs.Line.{Line, endAt}
 use Rattle.frame.specs.Standing.{counted, moved, stands}
 use Rattle.frame.specs.StandingLaws.{stands-sof, stands-next}
 use Rattle.frame.specs.Reading.{faultAt, decides}
 use Rattle.frame.specs.ReadPromise.{faultNumber}
+use Rattle.frame.specs.BitLaws.{bytes-none}
+use Rattle.frame.specs.Decided.{fault-decides, end-decides}
 use Rattle.frame_machine.specs.declared.Machine.{Machine}
 use Rattle.frame_machine.specs.declared.Event.{Event}
 use Rattle.frame_machine.specs.declared.Event.the-variants.{Going, Byte, Closed, Faulty}
@@ -24,14 +25,13 @@ use Rattle.frame_machine.specs.Meaning.{meaningOf}
 use Rattle.frame_machine.specs.Holding.{soFar, holding}
 use Rattle.frame_machine.specs.HoldingLaws.{count-of, began-within}
 use Rattle.frame_machine.specs.Does.{Does, faults, closes, goes, stores}
-use Rattle.frame_machine.specs.StepDoes.{some-fault, fresh-holds, step-does}
+use Rattle.frame_machine.specs.StepDoes.{positive, fresh-holds, step-does}
 use Rattle.frame_machine.specs.Holding.{Before}
 
 -- At the SOF's place there is nothing yet.
 pub at-first : (limit : ℕ) (l : Line) (o : ℕ) (m : Machine) → m ≡ fresh → Before limit l o (o + 1) m
-unfolding bytes
 at-first limit l o m e =
-    record { opened = omega arith; few = rw (stands-sof l o) (omega arith); holds = e ∙ fresh-holds ∙ ap holding (sym (stands-sof l o)) }
+    record { opened = omega arith; few = rw (stands-sof l o, bytes-none) (omega arith); holds = e ∙ fresh-holds ∙ ap holding (sym (stands-sof l o)) }
 
 -- ## What an event says of the interval at k
 
@@ -50,12 +50,10 @@ Says Closed limit l o k m =
 Says (Faulty f) limit l o k m = (decides limit l o k ≡ true) × (faultAt limit l o k ≡ faultNumber f)
 
 decides-fault : (limit : ℕ) (l : Line) (o k : ℕ) (f : Fault) → faultAt limit l o k ≡ faultNumber f → decides limit l o k ≡ true
-unfolding decides
-decides-fault limit l o k f e = rw (e, some-fault f)
+decides-fault limit l o k f e = fault-decides limit l o k (rw e (positive f))
 
 decides-end : (limit : ℕ) (l : Line) (o k : ℕ) (b : Bool) → faultAt limit l o k ≡ 0 → endAt l k ≡ b → decides limit l o k ≡ b
-unfolding decides
-decides-end limit l o k b e g = rw (e, g)
+decides-end limit l o k b e g = end-decides limit l o k e ∙ g
 
 module _ (limit : ℕ) (l : Line) (o k : ℕ) (m : Machine) (v : Before limit l o k m) where
   next-stands : stands l o (k + 1) ≡ moved (stands l o k) (l .shows k)

@@ -7,6 +7,7 @@ use mathlib.Core.List.{_++_, append-nil}
 use native.Mathlib.Omega.{arith}
 use lib.ListN.{length, length-append}
 use Rattle.frame.specs.Bits.{bytes}
+use Rattle.frame.specs.BitLaws.{bytes-none}
 use Rattle.frame.specs.Standing.{plain, checked, Standing, atSof, inMain, atNormalization, inResponse}
 use Rattle.frame.specs.Faults.{partBytes}
 use Rattle.frame_machine.specs.Holding.{earlier, soFar, holding}
@@ -18,9 +19,8 @@ count-of st = refl
 
 -- all bytes are those before the part, and the part's
 pub parts : (st : Standing) → soFar st ≡ earlier st ++ partBytes st
-unfolding bytes
-parts atSof = refl
-parts (inMain m) = append-nil (bytes m)
+parts atSof = rw bytes-none
+parts (inMain m) = rw bytes-none (append-nil (bytes m))
 parts (atNormalization m) = refl
 parts (inResponse plain m r) = refl
 parts (inResponse checked m r) = refl

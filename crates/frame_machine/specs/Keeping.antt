@@ -2,19 +2,19 @@
 -- Following a frame with its bytes kept in a row of their own, each at the place that the machine counts, until the frame
 -- closes.
 use Prim.Native.Nat.{ℕ, suc, _+_, _≤_, _<_}
-use mathlib.Core.Path.{_≡_, refl, ap, _∙_}
+use mathlib.Core.Path.{_≡_, ap, _∙_}
 use mathlib.Core.Bool.{true, false}
 use mathlib.Core.List.{List, [], _∷_, _++_}
 use native.Mathlib.Omega.{arith}
 use lib.ListN.{length, set, take, length-append, length-set}
 use lib.Seq.{take-suc-set}
 use Rattle.frame.specs.declared.Sign.{Sign}
-use Rattle.frame.specs.Bits.{bytes}
 use Rattle.frame.specs.Line.{Line}
 use Rattle.frame.specs.Standing.{Standing, counted, stands}
 use Rattle.frame.specs.StandingLaws.{stands-sof}
 use Rattle.frame.specs.Reading.{faultAt, decides}
 use Rattle.frame.specs.ReadPromise.{faultNumber}
+use Rattle.frame.specs.BitLaws.{bytes-none}
 use Rattle.frame_machine.specs.declared.Machine.{Machine}
 use Rattle.frame_machine.specs.declared.Event.{Event}
 use Rattle.frame_machine.specs.declared.Event.the-variants.{Going, Byte, Closed, Faulty}
@@ -36,9 +36,8 @@ pub record Closing (limit : ℕ) (l : Line) (o k : ℕ) (m : Machine) (kept : Li
 
 -- At the SOF's place there is nothing yet, whatever the kept bytes hold.
 pub keeping-first : (limit : ℕ) (l : Line) (o : ℕ) (m : Machine) (kept : List ℕ) → m ≡ fresh → limit ≤ length kept → Keeping limit l o (o + 1) m kept
-unfolding bytes
 keeping-first limit l o m kept e h =
-    record { follows = at-first limit l o m e; keeps = rw (stands-sof l o) (record { room = h; first = refl }) }
+    record { follows = at-first limit l o m e; keeps = rw (stands-sof l o) (record { room = h; first = rw bytes-none }) }
 
 keeps-same : (limit : ℕ) (st st′ : Standing) (kept : List ℕ) → soFar st′ ≡ soFar st → Kept limit st kept → Kept limit st′ kept
 keeps-same limit st st′ kept e h = record { room = h .room; first = rw e (h .first) }

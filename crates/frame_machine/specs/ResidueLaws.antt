@@ -10,33 +10,23 @@ use lib.Dec.{eqb}
 use lib.ListN.{length, getD, take}
 use lib.Seq.{take-suc, take-length}
 use borrow.Author.Tests.{eq-eqb, ne-eqb, eqb-true, eqb-false}
-use Rattle.checkbyte.specs.Register.{registerOf, checkOf, residue}
+use Rattle.checkbyte.specs.Register.{registerOf, checkOf, residue, Bytes}
 use Rattle.checkbyte.specs.Residue.{residue-is}
 use Rattle.checkbyte.specs.Differ.{residue-only}
-use Rattle.frame.specs.Bits.{value, byte, bytes}
+use Rattle.frame.specs.Bits.{value, bytes}
+use Rattle.frame.specs.BitLaws.{checks-more}
+use Rattle.frame.specs.ByteLaws.{bytes-made}
 use Rattle.frame.specs.Faults.{checksOut}
 
 value-small : (b : Bool) → value b ≤ 1
 value-small true = omega arith
 value-small false = omega arith
 
-byte-small : (a b c d e f g h : Bool) → byte a b c d e f g h < 256
-byte-small a b c d e f g h =
-    omega (arith, value-small a, value-small b, value-small c, value-small d, value-small e, value-small f, value-small g, value-small h)
-
--- every byte that bits make is a byte
-pub byte-at : (bits : List Bool) (i : ℕ) → getD (bytes bits) i 0 < 256
-unfolding bytes
-byte-at [] i = omega arith
-byte-at (a ∷ []) i = omega arith
-byte-at (a ∷ b ∷ []) i = omega arith
-byte-at (a ∷ b ∷ c ∷ []) i = omega arith
-byte-at (a ∷ b ∷ c ∷ d ∷ []) i = omega arith
-byte-at (a ∷ b ∷ c ∷ d ∷ e ∷ []) i = omega arith
-byte-at (a ∷ b ∷ c ∷ d ∷ e ∷ f ∷ []) i = omega arith
-byte-at (a ∷ b ∷ c ∷ d ∷ e ∷ f ∷ g ∷ []) i = omega arith
-byte-at (a ∷ b ∷ c ∷ d ∷ e ∷ f ∷ g ∷ h ∷ rest) zero = byte-small a b c d e f g h
-byte-at (a ∷ b ∷ c ∷ d ∷ e ∷ f ∷ g ∷ h ∷ rest) (suc i) = byte-at rest i
+-- every number of some bytes is a byte
+byte-in : (bs : List ℕ) → Bytes bs → (i : ℕ) → getD bs i 0 < 256
+byte-in [] small i = omega arith
+byte-in (b ∷ bs) small zero = small .0
+byte-in (b ∷ bs) small (suc i) = byte-in bs (small .1) i
 
 -- bytes are all but their last, and the last
 last-off : (bs : List ℕ) → 1 ≤ length bs → bs ≡ take (length bs - 1) bs ++ (getD bs (length bs - 1) 0 ∷ [])
@@ -57,7 +47,8 @@ last-judged bs c small = go (eqb c (checkOf bs)) refl
 
 -- Of the bytes that bits make, the register ends at 0xC4 exactly where the last is their check byte.
 pub checks-residue : (bits : List Bool) → 1 ≤ length (bytes bits) → checksOut (bytes bits) ≡ eqb (registerOf (bytes bits)) residue
-unfolding checksOut
 checks-residue bits h =
-    last-judged (take (length (bytes bits) - 1) (bytes bits)) (getD (bytes bits) (length (bytes bits) - 1) 0) (byte-at bits (length (bytes bits) - 1))
+    ap checksOut (last-off (bytes bits) h)
+    ∙ checks-more (take (length (bytes bits) - 1) (bytes bits)) (getD (bytes bits) (length (bytes bits) - 1) 0)
+    ∙ last-judged (take (length (bytes bits) - 1) (bytes bits)) (getD (bytes bits) (length (bytes bits) - 1) 0) (byte-in (bytes bits) (bytes-made bits) (length (bytes bits) - 1))
     ∙ ap (λ (bs : List ℕ). eqb (registerOf bs) residue) (sym (last-off (bytes bits) h))

@@ -1,21 +1,21 @@
 -- Laws.
 -- One interval more, from every standing, by every sign.
-use Prim.Native.Nat.{ℕ, _≤_}
+use Prim.Native.Nat.{ℕ, _≤_, _<_}
 use mathlib.Core.Path.{_≡_, refl}
 use mathlib.Core.Bool.{true, false}
 use lib.ListN.{length}
 use lib.Dec.{eqb}
+use native.Mathlib.Omega.{arith}
 use Rattle.checkbyte.specs.Register.{registerFrom}
 use Rattle.frame.specs.declared.Fault.{Fault}
 use Rattle.frame.specs.declared.Fault.the-variants.{Noise, NoSof, Break, Stuck, LateSof, SplitByte, FewBytes, WrongCheck, EodAfterResponse, ThirteenthByte}
 use Rattle.frame.specs.declared.Sign.{Sign}
 use Rattle.frame.specs.declared.Sign.the-variants.{Bit, Shut, Sof, Wrong}
 use Rattle.frame.specs.Signs.{wrong, sof}
-use Rattle.frame.specs.Bits.{bytes}
-use Rattle.frame.specs.ReadStated.{leftOver, shiftedIn}
 use Rattle.frame.specs.Standing.{plain, checked, Standing, atSof, inMain, atNormalization, inResponse}
-use Rattle.frame.specs.Faults.{fault}
 use Rattle.frame.specs.ReadPromise.{faultNumber}
+use Rattle.frame.specs.BitLaws.{bytes-none, left-over-none}
+use Rattle.frame.specs.FaultLaws.{sof-fault, wrong-fault, named-range}
 use Rattle.frame_machine.specs.Steps.{faulty, sofOf, stepOf, fresh}
 use Rattle.frame_machine.specs.Meaning.{meaningOf}
 use Rattle.frame_machine.specs.Holding.{soFar, holding}
@@ -36,22 +36,25 @@ some-fault WrongCheck = refl
 some-fault EodAfterResponse = refl
 some-fault ThirteenthByte = refl
 
+-- Its number is above 0.
+pub positive : (f : Fault) → 0 < faultNumber f
+positive f = omega (arith, named-range (faultNumber f) (record { fault-is = f; number-is = refl }) .0)
+
 -- The machine starts with what stands before the SOF: nothing.
 pub fresh-holds : fresh ≡ holding atSof
-unfolding holding leftOver shiftedIn registerFrom bytes
-fresh-holds = refl
+unfolding holding registerFrom
+fresh-holds = rw (left-over-none, bytes-none)
 
 sof-does : (limit : ℕ) (st : Standing) → Does limit st sof (sofOf (holding st))
-unfolding sofOf fault holding leftOver shiftedIn registerFrom bytes
-sof-does limit atSof = goes refl refl refl refl
-sof-does limit (inMain m) = faults LateSof refl refl
-sof-does limit (atNormalization m) = faults LateSof refl refl
-sof-does limit (inResponse plain m r) = faults LateSof refl refl
-sof-does limit (inResponse checked m r) = faults LateSof refl refl
+unfolding sofOf holding registerFrom
+sof-does limit atSof = goes (sof-fault limit atSof) refl (rw (left-over-none, bytes-none)) refl
+sof-does limit (inMain m) = faults LateSof (sof-fault limit (inMain m)) refl
+sof-does limit (atNormalization m) = faults LateSof (sof-fault limit (atNormalization m)) refl
+sof-does limit (inResponse plain m r) = faults LateSof (sof-fault limit (inResponse plain m r)) refl
+sof-does limit (inResponse checked m r) = faults LateSof (sof-fault limit (inResponse checked m r)) refl
 
 wrong-does : (limit : ℕ) (st : Standing) (f : Fault) → Does limit st (wrong (faultNumber f)) (faulty (holding st) f)
-unfolding fault
-wrong-does limit st f = faults f (rw (some-fault f)) refl
+wrong-does limit st f = faults f (wrong-fault limit st (faultNumber f) (positive f)) refl
 
 -- The step does what document 01 says, from every standing and by every sign.
 pub step-does : (limit : ℕ) (st : Standing) (s : Sign) → length (soFar st) ≤ limit → Does limit st (meaningOf s) (stepOf limit (holding st) s)
