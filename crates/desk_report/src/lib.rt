@@ -42,7 +42,7 @@ fn put_refusal(line: usize, lent: &mut [u8]) -> usize
     put(b"\n", lent, k2)
 }
 
-// The whole text for an input: it stands first in the lent bytes, and the input's widths stand first in the lent words.
+// The whole text for an input: it stands first in the lent bytes, and a good input's widths stand first in the lent words.
 pub fn desk(input: &[u8], words: &mut [u32], lent: &mut [u8]) -> Answered
     ensures { λ r. ⌜ DeskPromise (now (input .entry)) (now (words .entry)) (now (words .exit)) (now (lent .entry)) (now (lent .exit)) r ⌝ }
 {

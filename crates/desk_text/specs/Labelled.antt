@@ -7,19 +7,20 @@ use mathlib.Core.Bool.{Bool, true, false, not, cond, _&&_}
 use mathlib.Core.List.{List, [], _∷_, _++_, append-assoc, append-nil}
 use native.Mathlib.Omega.{arith}
 use lib.Dec.{eqb, ltb}
-use lib.ListN.{length}
+use lib.ListN.{length, getD, drop}
 use borrow.Author.Tests.{ne-eqb, eqb-true, eqb-false, not-true}
 use Rattle.laws.specs.Tests.{never, both}
 use Rattle.frame.specs.declared.Response.{Response}
 use Rattle.frame.specs.declared.Response.the-variants.{Without, Plain, Checked}
-use Rattle.frame.specs.Reading.{Outcome, good, quiet, unfinished, faulty, refused}
+use Rattle.frame.specs.Reading.{Good, Outcome, good, quiet, unfinished, faulty, refused}
 use Rattle.label.specs.Labels.{every, labelByte, mostLabel, among, isLabel}
 use Rattle.desk_text.specs.Grammar.{newline, tab, pieces, fields}
 use Rattle.desk_text.specs.Input.{Line, shut, lines, firstBad, customerOf, vehicleOf, recordingOf}
-use Rattle.desk_text.specs.Numerals.{numeral, decimalIn, decimal, hexDigit, hex}
+use Rattle.desk_text.specs.Numerals.{numeral, decimalIn, decimal, hexDigit, hex, hexSpelt}
 use Rattle.desk_text.specs.Report.{w-customer, w-vehicle, w-at, w-kind, w-main, w-response, w-refused, lineOf, refusal, atOf, kindOf, mainOf, marked, responseOf, answerText, answersText, answers, report, deskOf}
 use Rattle.desk_text.specs.Stated.{joined, tellsOf, answerLine, answerLines, headerLine}
 use Rattle.desk_text.specs.GoodLines.{label-size}
+use Rattle.desk_text.specs.NumeralLaws.{hex-again}
 use Rattle.desk_text.specs.Bounds.{answers-few}
 use Rattle.desk_text.specs.Whole.{good-own, desk-good, desk-bad, recording-few}
 
@@ -192,6 +193,19 @@ module _ (customer vehicle : List ℕ) (c : isLabel customer ≡ true) (v : isLa
   -- Each line has six fields: the customer, the vehicle, and what is told of the answer.
   pub line-fields : (x : Outcome) → fields (answerLine customer vehicle x .bytes) ≡ customer ∷ vehicle ∷ tellsOf x
   line-fields x = fields-again customer (vehicle ∷ tellsOf x) (line-plain x)
+
+  -- Read as hex, the main column of a frame's line is its main part ..
+  pub main-column : (f : Good) → hexSpelt (getD (fields (answerLine customer vehicle (good f) .bytes)) 4 []) ≡ f .main
+  main-column f = rw (line-fields (good f)) (hex-again (f .main))
+
+  -- .. and the response column after its mark is its response, where it has one.
+  pub response-column : (f : Good) → ¬ (f .kind ≡ Without) → hexSpelt (drop 2 (getD (fields (answerLine customer vehicle (good f) .bytes)) 5 [])) ≡ f .response
+  response-column f n = rw (line-fields (good f)) (go (f .kind) n)
+    where
+      go : (kind : Response) → ¬ (kind ≡ Without) → hexSpelt (drop 2 (marked kind (f .response))) ≡ f .response
+      go Without n = absurd (n refl)
+      go Plain n = hex-again (f .response)
+      go Checked n = hex-again (f .response)
 
   answers-lines : (xs : List Outcome) → lines (answersText customer vehicle xs) ≡ answerLines customer vehicle xs
   unfolding answersText answerText lines

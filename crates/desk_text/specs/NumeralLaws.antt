@@ -1,5 +1,5 @@
 -- Laws.
--- How many digits a number and some bytes are printed with, and that a printed number is read as that number.
+-- How many digits a number and some bytes are printed with, and that they are read again as what was printed.
 use Prim.Native.Nat.{ℕ, zero, suc, _+_, _-_, _*_, _/_, _%_, _^_, _≤_, _<_}
 use mathlib.Core.Path.{_≡_, refl, _∙_}
 use mathlib.Core.Bool.{Bool, true, false, cond}
@@ -8,9 +8,9 @@ use native.Mathlib.Omega.{arith}
 use native.Mathlib.Nat.{pow-suc}
 use lib.Dec.{ltb}
 use lib.ListN.{length, length-append}
-use borrow.Author.Tests.{lt-ltb}
+use borrow.Author.Tests.{lt-ltb, le-ltb, ltb-true, ltb-false}
 use Rattle.desk_text.specs.Grammar.{spells, spelt}
-use Rattle.desk_text.specs.Numerals.{numeral, decimalIn, decimal, hex}
+use Rattle.desk_text.specs.Numerals.{numeral, decimalIn, decimal, hexDigit, hex, hexValue, hexSpelt}
 
 -- A number below 10 ^ (j + 1) has at most j + 1 digits.
 digits-few : (f j n : ℕ) → n < 10 ^ suc j → length (decimalIn f n) ≤ suc j
@@ -58,3 +58,20 @@ digits-spell (suc f) n h = go (ltb n 10) (digits-spell f (n / 10) (omega (arith,
 -- Every line's number is read again as it was printed.
 pub spelt-decimal : (n : ℕ) → n < 100000 → spelt (decimal n) ≡ n
 spelt-decimal n h = digits-spell 19 n (omega arith)
+
+-- A hex digit stands for what it was printed for ..
+digit-value : (d : ℕ) → hexValue (hexDigit d) ≡ d
+unfolding hexDigit hexValue
+digit-value d = go (ltb d 10) refl
+  where
+    go : (b : Bool) → ltb d 10 ≡ b → cond (ltb (cond b (48 + d) (55 + d)) 58) (cond b (48 + d) (55 + d) - 48) (cond b (48 + d) (55 + d) - 55) ≡ d
+    go true e = rw (lt-ltb (48 + d) 58 (omega (arith, ltb-true d 10 e))) (omega arith)
+    go false e = rw (le-ltb (55 + d) 58 (omega (arith, ltb-false d 10 e))) (omega arith)
+
+-- .. and whatever bytes are printed in hex, the digits spell them again.
+pub hex-again : (bs : List ℕ) → hexSpelt (hex bs) ≡ bs
+unfolding hex hexSpelt
+hex-again [] = refl
+hex-again (b ∷ bs) =
+    let e : 16 * (b / 16) + b % 16 ≡ b = omega arith in
+    rw (digit-value (b / 16), digit-value (b % 16), e, hex-again bs)

@@ -1,6 +1,6 @@
 -- Definitions.
--- Numbers and bytes as the desk prints them.
-use Prim.Native.Nat.{ℕ, zero, suc, _+_, _/_, _%_}
+-- Numbers and bytes as the desk prints them, and bytes as they are read again.
+use Prim.Native.Nat.{ℕ, zero, suc, _+_, _-_, _*_, _/_, _%_}
 use mathlib.Core.Bool.{cond}
 use mathlib.Core.List.{List, [], _∷_, _++_}
 use lib.Dec.{ltb}
@@ -26,3 +26,13 @@ hexDigit d = cond (ltb d 10) (48 + d) (55 + d)
 unfoldable pub hex : List ℕ → List ℕ
 hex [] = []
 hex (b ∷ bs) = hexDigit (b / 16) ∷ hexDigit (b % 16) ∷ hex bs
+
+-- what a hex digit stands for
+unfoldable pub hexValue : ℕ → ℕ
+hexValue x = cond (ltb x 58) (x - 48) (x - 55)
+
+-- the bytes that hex digits spell, two digits for each
+unfoldable pub hexSpelt : List ℕ → List ℕ
+hexSpelt [] = []
+hexSpelt (x ∷ []) = []
+hexSpelt (x ∷ y ∷ ds) = (16 * hexValue x + hexValue y) ∷ hexSpelt ds
