@@ -2,6 +2,7 @@
 //! program writes and the other reads.
 
 use crate::check::with_check;
+use crate::numbers::*;
 use crate::other::plain_read;
 use crate::ours::{self, Clock};
 use crate::symbol::good_clock;
@@ -135,7 +136,7 @@ fn round_trip(trial: &mut Trial, clock: Clock, main: &[u8], kind: u32, response:
     for (who, answer, bytes) in [("second", by_second, bytes), ("proved", by_ours, again)] {
         let places = (answer.opening, answer.next) == (front.len(), front.len() + words.len() - 1);
         let parts = (answer.main, answer.response, answer.kind) == (first, all.len() - first, kind);
-        if answer.number != 0 || !places || !parts || bytes[..all.len()] != all {
+        if answer.number != FRAME || !places || !parts || bytes[..all.len()] != all {
             println!("compare: the {who} program does not read back what was written");
             println!("  clock {clock:?} main {main:?} kind {kind} response {response:?}");
             println!("  line {line:?}\n  answer {answer:?} bytes {bytes:?}");
