@@ -69,6 +69,14 @@ pub fn edges(trial: &mut Trial) {
             }
         }
     }
+    // Two inputs that are only read may overlap.
+    let bytes = [0x48, 0x6B, 0x10, 0x41, 0x0C, 0x1A, 0xF8, 0xFF];
+    for from in 0..bytes.len() {
+        for past in from..=bytes.len() {
+            trial.write(NOMINAL, &bytes[..5], 1, &bytes[from..past], WORDS);
+            trial.write(NOMINAL, &bytes[..5], 2, &bytes[from..past], WORDS);
+        }
+    }
 }
 
 /// Messages of these lengths: random bytes, and bytes of one bit's value throughout.
