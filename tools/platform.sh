@@ -8,7 +8,7 @@
 #   RUSTC      a Rust compiler for x86-64, with its words
 #   RUN        what stands before a program that these have built; nothing where it runs as it is
 #   DESK       a command that runs target/bin/desk
-#   EMULATED   yes where programs run by an emulator, which takes some twenty times as long
+#   EMULATED   yes where programs run by an emulator, which takes ten to twenty times as long
 #   LACKS_C, LACKS_RUST, LACKS_DESK
 #              what is missing for a C program, for a Rust program and for the desk; nothing where each can be built and run
 

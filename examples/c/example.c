@@ -68,19 +68,19 @@ static void put_frame(const uint8_t *bytes, size_t main_length, uint32_t kind, s
 /* One answer of reading, with the bytes that were lent to it. */
 static void put_answer(j1850_read_answer answer, const uint8_t *bytes) {
     switch (answer.number) {
-    case 0:
+    case J1850_FRAME:
         printf("  at %zu: ", answer.opening);
         put_frame(bytes, answer.main, answer.kind, answer.response);
         printf("\n");
         break;
-    case 1:
+    case J1850_QUIET:
         printf("  from %zu: quiet\n", answer.next);
         break;
-    case 2:
+    case J1850_UNFINISHED:
         printf("  at %zu: unfinished\n", answer.opening);
         break;
     default:
-        printf("  at %zu: fault %u\n", answer.next, (unsigned)answer.number);
+        printf("  at %zu: fault %u, %s\n", answer.next, (unsigned)answer.number, j1850_words(answer.number));
     }
 }
 
@@ -102,18 +102,18 @@ static void small_calls(void) {
 }
 
 static void reading(const uint32_t *widths, size_t count) {
-    uint8_t bytes[12];
+    uint8_t bytes[J1850_FRAME_BYTES];
     j1850_read_answer answer = {0};
 
     printf("The recording has %zu intervals\n", count);
     do {
         answer = j1850_read(widths, count, answer.next, bytes, sizeof bytes);
         put_answer(answer, bytes);
-    } while (answer.number != 1 && answer.number != 2);
+    } while (answer.number != J1850_QUIET && answer.number != J1850_UNFINISHED);
 }
 
 static void put_asked(j1850_asked_answer answer) {
-    if (answer.number == 1)
+    if (answer.number == J1850_QUIET)
         printf("  asked: quiet from %" PRIu64 "\n", answer.next);
     else
         printf("  asked: unfinished since %" PRIu64 "\n", answer.opening);
@@ -121,19 +121,19 @@ static void put_asked(j1850_asked_answer answer) {
 
 /* The same recording as a truck sends it: each interval is heard when it comes, and most decide nothing. */
 static void hearing(const uint32_t *widths, size_t count) {
-    uint8_t bytes[12];
+    uint8_t bytes[J1850_FRAME_BYTES];
     j1850_live live = j1850_live_start();
 
     printf("The same intervals, heard one by one:\n");
     put_asked(j1850_ask(&live));
     for (size_t i = 0; i < count; i++) {
         j1850_heard_answer answer = j1850_hear(&live, widths[i], bytes, sizeof bytes);
-        if (answer.number == 0) {
+        if (answer.number == J1850_FRAME) {
             printf("  %" PRIu64 " closes what opened at %" PRIu64 ": ", answer.next, answer.opening);
             put_frame(bytes, answer.main, answer.kind, answer.response);
             printf("\n");
         } else if (answer.number != J1850_UNDECIDED) {
-            printf("  %" PRIu64 " is at fault: %u\n", answer.next, (unsigned)answer.number);
+            printf("  %" PRIu64 " is at fault: %u, %s\n", answer.next, (unsigned)answer.number, j1850_words(answer.number));
         }
     }
     put_asked(j1850_ask(&live));
@@ -142,10 +142,10 @@ static void hearing(const uint32_t *widths, size_t count) {
 static void writing(void) {
     const uint8_t message[] = {0x08, 0xFF, 0x10};
     const uint8_t response[] = {0x28};
-    uint32_t words[101];
-    uint8_t bytes[12];
+    uint32_t words[J1850_FRAME_WORDS];
+    uint8_t bytes[J1850_FRAME_BYTES];
 
-    j1850_count_answer written = j1850_write(nominal, message, 3, J1850_PLAIN, response, 1, words, 101);
+    j1850_count_answer written = j1850_write(nominal, message, 3, J1850_PLAIN, response, 1, words, J1850_FRAME_WORDS);
     printf("A message with a plain response takes %zu words:\n ", written.count);
     put_words(words, written.count);
     put_answer(j1850_read(words, written.count, 0, bytes, sizeof bytes), bytes);
@@ -172,12 +172,12 @@ static void put_loss(sender who, size_t bit) {
 }
 
 static void one_round(int number, const sender *senders, j1850_station *row) {
-    uint32_t words[101];
-    uint8_t bytes[12];
-    j1850_round_answer round = j1850_round(row, 3, words, 101);
+    uint32_t words[J1850_FRAME_WORDS];
+    uint8_t bytes[J1850_FRAME_BYTES];
+    j1850_round_answer round = j1850_round(row, 3, words, J1850_FRAME_WORDS);
 
-    if (round.number != 0) {
-        printf("Round %d: refused with %u, nobody waits\n", number, (unsigned)round.number);
+    if (round.number != J1850_DONE) {
+        printf("Round %d: refused with %u: %s\n", number, (unsigned)round.number, j1850_words(round.number));
         return;
     }
     printf("Round %d: %zu words, %u microseconds\n", number, round.words, (unsigned)round.line_time);
@@ -200,13 +200,13 @@ static void arbitration(void) {
     j1850_station row[3] = {{.clock = nominal}, {.clock = nominal}, {.clock = nominal}};
 
     for (size_t i = 0; i < 3; i++)
-        if (j1850_load(row, 3, i, senders[i].message, senders[i].length).number != 0)
+        if (j1850_load(row, 3, i, senders[i].message, senders[i].length).number != J1850_DONE)
             printf("%s is not loaded\n", senders[i].name);
-    if (j1850_set_clock(row, 3, 1, fast).number != 0)
+    if (j1850_set_clock(row, 3, 1, fast).number != J1850_DONE)
         printf("the clock is not set\n");
     one_round(1, senders, row);
     one_round(2, senders, row);
-    if (j1850_withdraw(row, 3, 0).number == 0)
+    if (j1850_withdraw(row, 3, 0).number == J1850_DONE)
         printf("The engine's message is withdrawn\n");
     one_round(3, senders, row);
 }

@@ -24,13 +24,13 @@ def frame(answer, main, response):
 
 def told(answer, main, response):
     """One answer of reading."""
-    if answer.number == 0:
+    if answer.number == j1850.FRAME:
         return f"  at {answer.opening}: {frame(answer, main, response)}"
-    if answer.number == 1:
+    if answer.number == j1850.QUIET:
         return f"  from {answer.next}: quiet"
-    if answer.number == 2:
+    if answer.number == j1850.UNFINISHED:
         return f"  at {answer.opening}: unfinished"
-    return f"  at {answer.next}: fault {answer.number}"
+    return f"  at {answer.next}: fault {answer.number}, {j1850.words(answer.number)}"
 
 
 def small_calls(line):
@@ -45,18 +45,13 @@ def small_calls(line):
 
 def reading(line, widths):
     print(f"The recording has {len(widths)} intervals")
-    position = 0
-    while True:
-        answer, main, response = line.read(widths, position)
+    for answer, main, response in line.frames(widths):
         print(told(answer, main, response))
-        if answer.number in (1, 2):
-            return
-        position = answer.next
 
 
 def asked(line, live):
     answer = line.ask(live)
-    if answer.number == 1:
+    if answer.number == j1850.QUIET:
         return f"  asked: quiet from {answer.next}"
     return f"  asked: unfinished since {answer.opening}"
 
@@ -67,10 +62,10 @@ def hearing(line, widths):
     print(f"The same intervals, heard one by one:\n{asked(line, live)}")
     for width in widths:
         answer, main, response = line.hear(live, width)
-        if answer.number == 0:
+        if answer.number == j1850.FRAME:
             print(f"  {answer.next} closes what opened at {answer.opening}: {frame(answer, main, response)}")
         elif answer.number != j1850.UNDECIDED:
-            print(f"  {answer.next} is at fault: {answer.number}")
+            print(f"  {answer.next} is at fault: {answer.number}, {j1850.words(answer.number)}")
     print(asked(line, live))
 
 
@@ -93,7 +88,7 @@ def one_round(line, number, senders, row):
     try:
         answer, words = line.round(row)
     except j1850.Refused as refused:
-        print(f"Round {number}: refused with {refused.number}, nobody waits")
+        print(f"Round {number}: {refused}")
         return
     print(f"Round {number}: {answer.words} words, {answer.line_time} microseconds")
     for (name, message), verdict in zip(senders, answer.verdicts):
@@ -128,7 +123,7 @@ def desk(line, data):
 def main():
     line = j1850.Library(sys.argv[1])
     data = open(sys.argv[2], "rb").read()
-    widths = [int(row[3:]) for row in data.decode().splitlines() if row.startswith("iv\t")]
+    widths = j1850.recording(int(row[3:]) for row in data.decode().splitlines() if row.startswith("iv\t"))
     small_calls(line)
     reading(line, widths)
     hearing(line, widths)

@@ -108,14 +108,17 @@ pub enum Desk<'a> {
     Refused { line: usize, text: &'a [u8] },
 }
 
-/// The library's number of an interval that decides nothing yet.
-const UNDECIDED: u32 = 63;
-
-/// What has to be lent to `desk`.
+/// What has to be lent: bytes for a frame, words for a frame, and what `desk` takes.
+pub const FRAME_BYTES: usize = 12;
+pub const FRAME_WORDS: usize = 101;
 pub const DESK_WORDS: usize = 16_384;
 pub const DESK_TEXT: usize = 442_463;
 
 mod library;
+#[allow(dead_code)] // a caller takes what it needs
+pub mod numbers;
+
+use numbers::{BAD_INPUT, DONE, FAULT_NOISE, FAULT_THIRTEENTH_BYTE, FRAME, QUIET, UNDECIDED, UNFINISHED};
 
 // Each call below hands over slices that Rust lends for the length of the call, and the library touches nothing else.
 
@@ -157,13 +160,13 @@ pub fn write(clock: Clock, main: &[u8], response: Response, words: &mut [u32]) -
 pub fn read<'a>(intervals: &[u32], from: usize, bytes: &'a mut [u8]) -> Result<Read<'a>, u32> {
     let answer = unsafe { library::j1850_read(intervals.as_ptr(), intervals.len(), from, bytes.as_mut_ptr(), bytes.len()) };
     Ok(match answer.number {
-        0 => {
+        FRAME => {
             let (main, response) = parts(bytes, answer.main, answer.kind, answer.response);
             Read::Frame { opening: answer.opening, next: answer.next, main, response }
         }
-        1 => Read::Quiet { next: answer.next },
-        2 => Read::Unfinished { opening: answer.opening },
-        number @ 11..=20 => Read::Fault { number, next: answer.next },
+        QUIET => Read::Quiet { next: answer.next },
+        UNFINISHED => Read::Unfinished { opening: answer.opening },
+        number @ FAULT_NOISE..=FAULT_THIRTEENTH_BYTE => Read::Fault { number, next: answer.next },
         refused => return Err(refused),
     })
 }
@@ -177,12 +180,12 @@ pub fn live_start() -> Live {
 pub fn hear<'a>(live: &mut Live, width: u32, bytes: &'a mut [u8]) -> Result<Heard<'a>, u32> {
     let answer = unsafe { library::j1850_hear(live, width, bytes.as_mut_ptr(), bytes.len()) };
     Ok(match answer.number {
-        0 => {
+        FRAME => {
             let (main, response) = parts(bytes, answer.main, answer.kind, answer.response);
             Heard::Frame { opening: answer.opening, next: answer.next, main, response }
         }
         UNDECIDED => Heard::Nothing,
-        number @ 11..=20 => Heard::Fault { number, next: answer.next },
+        number @ FAULT_NOISE..=FAULT_THIRTEENTH_BYTE => Heard::Fault { number, next: answer.next },
         refused => return Err(refused),
     })
 }
@@ -191,7 +194,7 @@ pub fn hear<'a>(live: &mut Live, width: u32, bytes: &'a mut [u8]) -> Result<Hear
 pub fn ask(live: &Live) -> Asked {
     let answer = unsafe { library::j1850_ask(live) };
     match answer.number {
-        1 => Asked::Quiet { next: answer.next },
+        QUIET => Asked::Quiet { next: answer.next },
         _ => Asked::Unfinished { opening: answer.opening },
     }
 }
@@ -226,8 +229,8 @@ pub fn round(row: &mut [Station], words: &mut [u32]) -> Result<Round, u32> {
 pub fn desk<'a>(input: &[u8], words: &mut [u32], text: &'a mut [u8]) -> Result<Desk<'a>, u32> {
     let answer = unsafe { library::j1850_desk(input.as_ptr(), input.len(), words.as_mut_ptr(), words.len(), text.as_mut_ptr(), text.len()) };
     match answer.number {
-        0 => Ok(Desk::Report { text: &text[..answer.length] }),
-        62 => Ok(Desk::Refused { line: answer.line, text: &text[..answer.length] }),
+        DONE => Ok(Desk::Report { text: &text[..answer.length] }),
+        BAD_INPUT => Ok(Desk::Refused { line: answer.line, text: &text[..answer.length] }),
         refused => Err(refused),
     }
 }
@@ -244,7 +247,7 @@ fn parts(bytes: &[u8], main: usize, kind: u32, response: usize) -> (&[u8], Respo
 }
 
 fn done(number: u32) -> Result<(), u32> {
-    if number == 0 {
+    if number == DONE {
         Ok(())
     } else {
         Err(number)

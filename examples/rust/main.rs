@@ -5,7 +5,8 @@
 
 mod j1850;
 
-use j1850::{Asked, Clock, Desk, Gate, Heard, Live, Read, Response, Station, Symbol, Verdict, DESK_TEXT, DESK_WORDS, NOMINAL};
+use j1850::numbers;
+use j1850::{Asked, Clock, Desk, Gate, Heard, Live, Read, Response, Station, Symbol, Verdict, DESK_TEXT, DESK_WORDS, FRAME_BYTES, FRAME_WORDS, NOMINAL};
 
 fn hex(bytes: &[u8]) -> String {
     bytes.iter().map(|b| format!(" {b:02X}")).collect()
@@ -31,7 +32,7 @@ fn told(answer: &Read) -> String {
         Read::Frame { opening, main, response, .. } => format!("  at {opening}: {}", frame(main, response)),
         Read::Quiet { next } => format!("  from {next}: quiet"),
         Read::Unfinished { opening } => format!("  at {opening}: unfinished"),
-        Read::Fault { number, next } => format!("  at {next}: fault {number}"),
+        Read::Fault { number, next } => format!("  at {next}: fault {number}, {}", numbers::words(*number)),
     }
 }
 
@@ -53,7 +54,7 @@ fn reading(widths: &[u32]) -> Result<(), u32> {
     println!("The recording has {} intervals", widths.len());
     let mut from = 0;
     loop {
-        let mut bytes = [0; 12];
+        let mut bytes = [0; FRAME_BYTES];
         let answer = j1850::read(widths, from, &mut bytes)?;
         println!("{}", told(&answer));
         match answer {
@@ -75,11 +76,11 @@ fn hearing(widths: &[u32]) -> Result<(), u32> {
     let mut live = j1850::live_start();
     println!("The same intervals, heard one by one:\n{}", asked(&live));
     for width in widths {
-        let mut bytes = [0; 12];
+        let mut bytes = [0; FRAME_BYTES];
         match j1850::hear(&mut live, *width, &mut bytes)? {
             Heard::Nothing => {}
             Heard::Frame { opening, next, main, response } => println!("  {next} closes what opened at {opening}: {}", frame(main, &response)),
-            Heard::Fault { number, next } => println!("  {next} is at fault: {number}"),
+            Heard::Fault { number, next } => println!("  {next} is at fault: {number}, {}", numbers::words(number)),
         }
     }
     println!("{}", asked(&live));
@@ -87,8 +88,8 @@ fn hearing(widths: &[u32]) -> Result<(), u32> {
 }
 
 fn writing() -> Result<(), u32> {
-    let mut words = [0; 101];
-    let mut bytes = [0; 12];
+    let mut words = [0; FRAME_WORDS];
+    let mut bytes = [0; FRAME_BYTES];
     let count = j1850::write(NOMINAL, &[0x08, 0xFF, 0x10], Response::Plain(&[0x28]), &mut words)?;
     println!("A message with a plain response takes {count} words:\n {}", list(&words[..count]));
     println!("{}", told(&j1850::read(&words[..count], 0, &mut bytes)?));
@@ -109,12 +110,12 @@ fn loss(message: &[u8], bit: usize) -> String {
 }
 
 fn one_round(number: usize, senders: &[(&str, &[u8])], row: &mut [Station]) -> Result<(), u32> {
-    let mut words = [0; 101];
-    let mut bytes = [0; 12];
+    let mut words = [0; FRAME_WORDS];
+    let mut bytes = [0; FRAME_BYTES];
     let round = match j1850::round(row, &mut words) {
         Ok(round) => round,
         Err(refused) => {
-            println!("Round {number}: refused with {refused}, nobody waits");
+            println!("Round {number}: refused with {refused}: {}", numbers::words(refused));
             return Ok(());
         }
     };
@@ -171,7 +172,7 @@ fn main() {
     let name = std::env::args().nth(1).expect("usage: example RECORDING");
     let input = std::fs::read_to_string(&name).expect("the recording is not read");
     if let Err(refused) = all(&input) {
-        eprintln!("a call was refused with {refused}");
+        eprintln!("a call was refused with {refused}: {}", numbers::words(refused));
         std::process::exit(1);
     }
 }

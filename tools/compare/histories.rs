@@ -2,6 +2,7 @@
 //! on rounds and on waiting watched over all of them.
 
 use crate::check::with_check;
+use crate::numbers::*;
 use crate::ours::{Clock, Station};
 use crate::random::Random;
 use crate::row_cases::{station, WORDS};
@@ -163,10 +164,10 @@ impl History {
             }
             Call::Round(lent) => {
                 let (answer, words) = trial.round(&mut self.row, *lent);
-                if answer.number == 0 {
+                if answer.number == DONE {
                     self.watch.played(&mut trial.tally, &answer, &words);
                 }
-                self.draining &= answer.number != 42;
+                self.draining &= answer.number != REFUSED_NOTHING;
             }
         }
     }

@@ -22,6 +22,9 @@ mod lines;
 #[path = "../second/live.rs"]
 mod live;
 mod live_cases;
+#[allow(dead_code)]
+#[path = "../../examples/rust/j1850/numbers.rs"]
+mod numbers;
 mod other;
 mod other_live;
 mod other_row;

@@ -1,6 +1,7 @@
 //! The second program's answers in the shape of the proved calls' ones, as document 01 has them or, to see that a
 //! difference is found, with one rule altered (wrong.rs).
 
+use crate::numbers::*;
 use crate::ours::{Check, Class, Clock, Counted, Gate, Read, Timed};
 use crate::reading::{self, Kind};
 use crate::wrong::{self, Wrong};
@@ -110,8 +111,8 @@ pub fn plain_write(
 ) -> Counted {
     let clock = second_clock(clock);
     match kind_of(kind) {
-        None if symbol::good_clock(clock) => counted(Err(37)),
-        None => counted(Err(36)),
+        None if symbol::good_clock(clock) => counted(Err(REFUSED_MESSAGE)),
+        None => counted(Err(REFUSED_CLOCK)),
         Some(kind) => {
             let message = writing::Message {
                 main,
@@ -151,7 +152,7 @@ pub fn plain_read(intervals: &[u32], from: usize, bytes: &mut [u8]) -> Read {
                 main: frame.main,
                 response: frame.response,
             },
-            None if answer.number == 2 => bare(2, answer.next, answer.next),
+            None if answer.number == UNFINISHED => bare(UNFINISHED, answer.next, answer.next),
             None => bare(answer.number, answer.next, 0),
         },
     }

@@ -2,11 +2,9 @@
 //! altered (wrong_live.rs).
 
 use crate::live::{self, Live};
+use crate::numbers::*;
 use crate::ours::{Asked, Heard};
 use crate::wrong::{self, Wrong};
-
-/// The library's own number for an interval that decides nothing yet.
-pub const UNDECIDED: u32 = 63;
 
 /// An answer without a frame. A value that the answer does not have is 0.
 pub fn bare(number: u32, next: u64) -> Heard {
@@ -57,12 +55,12 @@ pub fn plain_hear(live: &mut Live, width: u32, bytes: &mut [u8]) -> Heard {
 pub fn plain_ask(live: &Live) -> Asked {
     match live.ask() {
         live::Asked::Quiet { next } => Asked {
-            number: 1,
+            number: QUIET,
             next,
             opening: 0,
         },
         live::Asked::Unfinished { opening } => Asked {
-            number: 2,
+            number: UNFINISHED,
             next: opening,
             opening,
         },

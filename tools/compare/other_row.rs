@@ -1,5 +1,6 @@
 //! The second program's bench and text in the shape of the proved calls, as document 01 has them or with one rule altered.
 
+use crate::numbers::*;
 use crate::other::second_clock;
 use crate::ours::{Called, Clock, Desk, Round, Station, Verdict};
 use crate::wrong::{self, Wrong};
@@ -129,7 +130,7 @@ pub fn plain_desk(input: &[u8], words: &mut [u32], bytes: &mut [u8]) -> Desk {
         length,
     };
     if words.len() < DESK_WORDS || bytes.len() < DESK_BYTES {
-        return bare(61, 0, 0);
+        return bare(REFUSED_DESK_LENT, 0, 0);
     }
     let bad = match text::order(input) {
         Ok(order) => {
@@ -141,7 +142,7 @@ pub fn plain_desk(input: &[u8], words: &mut [u32], bytes: &mut [u8]) -> Desk {
     let page = text::desk(input);
     bytes[..page.len()].copy_from_slice(&page);
     match bad {
-        None => bare(0, 0, page.len()),
-        Some(line) => bare(62, line, page.len()),
+        None => bare(DONE, 0, page.len()),
+        Some(line) => bare(BAD_INPUT, line, page.len()),
     }
 }

@@ -1,6 +1,7 @@
 //! Rows: document 01's own cases and each refusal with each that competes with it, then rounds of two stations and of many.
 
 use crate::check::with_check;
+use crate::numbers::*;
 use crate::ours::{Clock, Station, Verdict};
 use crate::trial::Trial;
 use crate::trial_row::Row;
@@ -91,19 +92,23 @@ fn on_paper(trial: &mut Trial) {
     }
     expect("rounds of 00, FF, FF FF", rounds, [1, 3, 2]);
     let (answer, _) = trial.round(&mut row, WORDS);
-    expect("nobody waiting", answer.number, 42);
+    expect("nobody waiting", answer.number, REFUSED_NOTHING);
 }
 
 /// 11 bytes are taken and 12 are not; 101 words are enough and 100 are not.
 fn limits(trial: &mut Trial) {
     let mut row = row_of(trial, &[(NOMINAL, &[]), (SLOW, &[])]);
     let bytes = trial.random.bytes(12);
-    expect("12 bytes", trial.load(&mut row, 0, &bytes), 37);
-    expect("11 bytes", trial.load(&mut row, 0, &bytes[..11]), 0);
-    expect("no bytes", trial.load(&mut row, 1, &[]), 37);
-    expect("1 byte", trial.load(&mut row, 1, &bytes[..1]), 0);
-    expect("100 words", trial.round(&mut row, 100).0.number, 32);
-    expect("101 words", trial.round(&mut row, WORDS).0.number, 0);
+    expect("12 bytes", trial.load(&mut row, 0, &bytes), REFUSED_MESSAGE);
+    expect("11 bytes", trial.load(&mut row, 0, &bytes[..11]), DONE);
+    expect("no bytes", trial.load(&mut row, 1, &[]), REFUSED_MESSAGE);
+    expect("1 byte", trial.load(&mut row, 1, &bytes[..1]), DONE);
+    expect(
+        "100 words",
+        trial.round(&mut row, 100).0.number,
+        REFUSED_LENT,
+    );
+    expect("101 words", trial.round(&mut row, WORDS).0.number, DONE);
     // The message on which the line is busy longest is not there, since its check byte is another; this one comes near.
     let mut row = row_of(trial, &[(SLOW, &[0xAA; 11])]);
     let (answer, _) = trial.round(&mut row, WORDS);
@@ -157,19 +162,23 @@ fn row_refusals(trial: &mut Trial) {
 /// Every call on a row, at places inside and outside, with good and bad values.
 fn refusals(trial: &mut Trial, stations: &[Station], unsound: bool) {
     let count = stations.len();
-    let size = (38, count == 0 || count > 32);
-    let sound = (39, unsound);
+    let size = (REFUSED_ROW_SIZE, count == 0 || count > 32);
+    let sound = (REFUSED_ROW_UNSOUND, unsound);
     for place in [0, count.wrapping_sub(1), count, count + 1, usize::MAX] {
-        let none = (40, place >= count);
+        let none = (REFUSED_PLACE, place >= count);
         let held = stations.get(place).map_or(false, |s| s.length > 0);
         for length in [0, 1, 11, 12, 300] {
-            let value = (37, length == 0 || length > 11);
-            let wanted = first_of(trial, "load", &[size, sound, none, value, (41, held)]);
+            let value = (REFUSED_MESSAGE, length == 0 || length > 11);
+            let wanted = first_of(
+                trial,
+                "load",
+                &[size, sound, none, value, (REFUSED_HOLDS, held)],
+            );
             let message = trial.random.bytes(length);
             let mut row = Row::new(&mut trial.random, stations);
             expect("load", trial.load(&mut row, place, &message), wanted);
         }
-        let nothing = (42, place < count && !held);
+        let nothing = (REFUSED_NOTHING, place < count && !held);
         let wanted = first_of(trial, "withdraw", &[size, sound, none, nothing]);
         let mut row = Row::new(&mut trial.random, stations);
         expect("withdraw", trial.withdraw(&mut row, place), wanted);
@@ -178,14 +187,18 @@ fn refusals(trial: &mut Trial, stations: &[Station], unsound: bool) {
             ..NOMINAL
         };
         for (clock, bad) in [(QUICK, false), (SLOW, false), (short_of_80, true)] {
-            let wanted = first_of(trial, "set clock", &[size, sound, none, (36, bad)]);
+            let wanted = first_of(
+                trial,
+                "set clock",
+                &[size, sound, none, (REFUSED_CLOCK, bad)],
+            );
             let mut row = Row::new(&mut trial.random, stations);
             expect("set clock", trial.set_clock(&mut row, place, clock), wanted);
         }
     }
-    let nobody = (42, stations.iter().all(|s| s.length == 0));
+    let nobody = (REFUSED_NOTHING, stations.iter().all(|s| s.length == 0));
     for lent in [0, 1, 100, WORDS, 102, 140] {
-        let few = (32, lent < WORDS);
+        let few = (REFUSED_LENT, lent < WORDS);
         let wanted = first_of(trial, "round", &[size, sound, few, nobody]);
         let mut row = Row::new(&mut trial.random, stations);
         expect("round", trial.round(&mut row, lent).0.number, wanted);
@@ -197,8 +210,8 @@ pub fn until_empty(trial: &mut Trial, row: &mut Row) {
     let mut watch = Watch::over(row.stations());
     loop {
         let (answer, words) = trial.round(row, WORDS);
-        if answer.number != 0 {
-            return expect("the end of a row", answer.number, 42);
+        if answer.number != DONE {
+            return expect("the end of a row", answer.number, REFUSED_NOTHING);
         }
         watch.played(&mut trial.tally, &answer, &words);
     }

@@ -1,69 +1,128 @@
 //! How often each answer occurred, and which of the documents' answers have to.
 
+use crate::numbers::*;
 use std::collections::BTreeMap;
 
 /// The calls that have more than one number to answer, with every number that documents 01 and 02 have for them, and the
 /// library's own.
-const ANSWERS: [(&str, &[u32]); 10] = [
-    ("intervals", &[0, 32, 33, 34, 35]),
-    ("write", &[0, 32, 36, 37]),
+const ANSWERS: [(&str, &[&[u32]]); 10] = [
     (
-        "read",
-        &[0, 1, 2, 11, 12, 13, 14, 15, 16, 17, 18, 19, 20, 31, 32],
+        "intervals",
+        &[&[
+            DONE,
+            REFUSED_LENT,
+            REFUSED_SAMPLES,
+            REFUSED_GATE,
+            REFUSED_UNUSABLE,
+        ]],
     ),
+    (
+        "write",
+        &[&[DONE, REFUSED_LENT, REFUSED_CLOCK, REFUSED_MESSAGE]],
+    ),
+    ("read", &[LINES, &FAULTS, &[REFUSED_POSITION, REFUSED_LENT]]),
     (
         "hear",
-        &[0, 11, 12, 13, 14, 15, 16, 17, 18, 19, 20, 32, 51, 63],
+        &[
+            &[FRAME],
+            &FAULTS,
+            &[REFUSED_LENT, REFUSED_PAST_PLACES, UNDECIDED],
+        ],
     ),
-    ("ask", &[1, 2]),
-    ("load", &[0, 37, 38, 39, 40, 41]),
-    ("withdraw", &[0, 38, 39, 40, 42]),
-    ("set clock", &[0, 36, 38, 39, 40]),
-    ("round", &[0, 32, 38, 39, 42]),
-    ("desk", &[0, 61, 62]),
+    ("ask", &[&[QUIET, UNFINISHED]]),
+    (
+        "load",
+        &[&[DONE, REFUSED_MESSAGE], AT_A_PLACE, &[REFUSED_HOLDS]],
+    ),
+    ("withdraw", &[&[DONE], AT_A_PLACE, &[REFUSED_NOTHING]]),
+    ("set clock", &[&[DONE, REFUSED_CLOCK], AT_A_PLACE]),
+    (
+        "round",
+        &[&[
+            DONE,
+            REFUSED_LENT,
+            REFUSED_ROW_SIZE,
+            REFUSED_ROW_UNSOUND,
+            REFUSED_NOTHING,
+        ]],
+    ),
+    ("desk", &[&[DONE, REFUSED_DESK_LENT, BAD_INPUT]]),
 ];
+
+/// What reading finds besides faults, the faults, and what every call at a place of a row can be refused with.
+const LINES: &[u32] = &[FRAME, QUIET, UNFINISHED];
+const FAULTS: [u32; 10] = [
+    FAULT_NOISE,
+    FAULT_NO_SOF,
+    FAULT_BREAK,
+    FAULT_STUCK,
+    FAULT_LATE_SOF,
+    FAULT_SPLIT_BYTE,
+    FAULT_FEW_BYTES,
+    FAULT_WRONG_CHECK,
+    FAULT_EOD_AFTER_RESPONSE,
+    FAULT_THIRTEENTH_BYTE,
+];
+const AT_A_PLACE: &[u32] = &[REFUSED_ROW_SIZE, REFUSED_ROW_UNSOUND, REFUSED_PLACE];
 
 /// What answers carry: how places fared (0 idle, 1 through, 2 lost), which lines a report has, which responses, and how
 /// messages went out (waiting.rs).
-const CARRIED: [(&str, &[u32]); 4] = [
-    ("verdict", &[0, 1, 2]),
-    ("went out", &[0, 1, 2]),
-    (
-        "desk line",
-        &[0, 1, 2, 11, 12, 13, 14, 15, 16, 17, 18, 19, 20],
-    ),
-    ("desk response", &[0, 1, 2]),
+const CARRIED: [(&str, &[&[u32]]); 4] = [
+    ("verdict", &[&[0, 1, 2]]),
+    ("went out", &[&[0, 1, 2]]),
+    ("desk line", &[LINES, &FAULTS]),
+    ("desk response", &[&[0, 1, 2]]),
 ];
 
-/// The refusals of calls on a row or a live reader that can apply at once, the earlier first. 40 leaves no station for 41
-/// or 42.
+/// The refusals of calls on a row or a live reader that can apply at once, the earlier first. A place that there is not leaves
+/// no station that holds a message or none.
 const COMPETING: [(&str, &[(u32, u32)]); 5] = [
-    ("hear", &[(51, 32)]),
+    ("hear", &[(REFUSED_PAST_PLACES, REFUSED_LENT)]),
     (
         "load",
         &[
-            (38, 39),
-            (38, 40),
-            (38, 37),
-            (38, 41),
-            (39, 40),
-            (39, 37),
-            (39, 41),
-            (40, 37),
-            (37, 41),
+            (REFUSED_ROW_SIZE, REFUSED_ROW_UNSOUND),
+            (REFUSED_ROW_SIZE, REFUSED_PLACE),
+            (REFUSED_ROW_SIZE, REFUSED_MESSAGE),
+            (REFUSED_ROW_SIZE, REFUSED_HOLDS),
+            (REFUSED_ROW_UNSOUND, REFUSED_PLACE),
+            (REFUSED_ROW_UNSOUND, REFUSED_MESSAGE),
+            (REFUSED_ROW_UNSOUND, REFUSED_HOLDS),
+            (REFUSED_PLACE, REFUSED_MESSAGE),
+            (REFUSED_MESSAGE, REFUSED_HOLDS),
         ],
     ),
     (
         "withdraw",
-        &[(38, 39), (38, 40), (38, 42), (39, 40), (39, 42)],
+        &[
+            (REFUSED_ROW_SIZE, REFUSED_ROW_UNSOUND),
+            (REFUSED_ROW_SIZE, REFUSED_PLACE),
+            (REFUSED_ROW_SIZE, REFUSED_NOTHING),
+            (REFUSED_ROW_UNSOUND, REFUSED_PLACE),
+            (REFUSED_ROW_UNSOUND, REFUSED_NOTHING),
+        ],
     ),
     (
         "set clock",
-        &[(38, 39), (38, 40), (38, 36), (39, 40), (39, 36), (40, 36)],
+        &[
+            (REFUSED_ROW_SIZE, REFUSED_ROW_UNSOUND),
+            (REFUSED_ROW_SIZE, REFUSED_PLACE),
+            (REFUSED_ROW_SIZE, REFUSED_CLOCK),
+            (REFUSED_ROW_UNSOUND, REFUSED_PLACE),
+            (REFUSED_ROW_UNSOUND, REFUSED_CLOCK),
+            (REFUSED_PLACE, REFUSED_CLOCK),
+        ],
     ),
     (
         "round",
-        &[(38, 39), (38, 32), (38, 42), (39, 32), (39, 42), (32, 42)],
+        &[
+            (REFUSED_ROW_SIZE, REFUSED_ROW_UNSOUND),
+            (REFUSED_ROW_SIZE, REFUSED_LENT),
+            (REFUSED_ROW_SIZE, REFUSED_NOTHING),
+            (REFUSED_ROW_UNSOUND, REFUSED_LENT),
+            (REFUSED_ROW_UNSOUND, REFUSED_NOTHING),
+            (REFUSED_LENT, REFUSED_NOTHING),
+        ],
     ),
 ];
 
@@ -96,14 +155,19 @@ fn print(counts: &Counts) {
 }
 
 /// What occurred too seldom of what has to.
-fn seldom(counts: &Counts, expected: &[(&'static str, &[u32])], least: u64) -> Vec<String> {
+fn seldom(counts: &Counts, expected: &[(&'static str, &[&[u32]])], least: u64) -> Vec<String> {
     let one = |name: &'static str, number: u32| {
         let times = counts.get(&(name, number)).copied().unwrap_or(0);
         (times < least).then(|| format!("{name} was {number} only {times} times"))
     };
     let all = expected.iter();
-    all.flat_map(|(name, numbers)| numbers.iter().filter_map(move |n| one(name, *n)))
-        .collect()
+    all.flat_map(|(name, numbers)| {
+        numbers
+            .concat()
+            .into_iter()
+            .filter_map(move |n| one(name, n))
+    })
+    .collect()
 }
 
 impl Tally {

@@ -1,5 +1,6 @@
 //! One call put to both programs: the answers, every lent word and byte, and the memory around it have to agree.
 
+use crate::numbers::*;
 use crate::other;
 use crate::ours::{self, Clock, Counted, Gate, Read};
 use crate::random::Random;
@@ -199,7 +200,7 @@ impl Trial {
         let mut from = 0;
         loop {
             let (answer, _) = self.read(intervals, from, 12);
-            if answer.number <= 2 && answer.number != 0 {
+            if answer.number <= UNFINISHED && answer.number != FRAME {
                 return;
             }
             if answer.next <= from {

@@ -1,5 +1,6 @@
 //! The desk's call put to both programs: the answers, every lent word and byte and the memory around them have to agree.
 
+use crate::numbers::*;
 use crate::other_row::{self, DESK_BYTES, DESK_WORDS};
 use crate::ours::{self, Desk};
 use crate::trial::{differ, told, Trial, AROUND};
@@ -7,9 +8,9 @@ use crate::trial::{differ, told, Trial, AROUND};
 /// The number of a word of the column `kind`.
 fn kind_number(kind: &str) -> Option<u32> {
     match kind {
-        "frame" => Some(0),
-        "quiet" => Some(1),
-        "unfinished" => Some(2),
+        "frame" => Some(FRAME),
+        "quiet" => Some(QUIET),
+        "unfinished" => Some(UNFINISHED),
         fault => fault.strip_prefix("fault-")?.parse().ok(),
     }
 }
@@ -38,7 +39,7 @@ impl Trial {
             if let Some(number) = number {
                 self.tally.note("desk line", number);
             }
-            if number == Some(0) {
+            if number == Some(FRAME) {
                 self.tally.note("desk response", response_number(fields[5]));
             }
         }
@@ -76,7 +77,7 @@ impl Trial {
             differ(self.seed, "desk", &case, found);
         }
         let text = my_bytes[b][..mine.length].to_vec();
-        if mine.number == 0 {
+        if mine.number == DONE {
             self.note_lines(&String::from_utf8_lossy(&text));
         }
         (mine, text)

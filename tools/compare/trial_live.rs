@@ -3,6 +3,7 @@
 //! what it answers later.
 
 use crate::live;
+use crate::numbers::*;
 use crate::other_live;
 use crate::ours::{self, Asked, Heard, Live};
 use crate::trial::{differ, told, Trial, AROUND};
@@ -78,14 +79,19 @@ impl Trial {
         let (mut my_bytes, mut their_bytes) = (bytes.clone(), bytes);
         let before = self.padded(readers.mine);
         let mut padded = before;
-        let mine = ours::hear(&mut padded.live, width, &mut my_bytes[AROUND..AROUND + lent]);
+        let mine = ours::hear(
+            &mut padded.live,
+            width,
+            &mut my_bytes[AROUND..AROUND + lent],
+        );
         let their_lent = &mut their_bytes[AROUND..AROUND + lent];
         let theirs = other_live::hear(self.wrong, &mut readers.theirs, width, their_lent);
         self.tally.count("hear", mine.number);
-        if mine.number == 51 && lent < 12 {
-            self.tally.compete("hear", 51, 32);
+        if mine.number == REFUSED_PAST_PLACES && lent < 12 {
+            self.tally
+                .compete("hear", REFUSED_PAST_PLACES, REFUSED_LENT);
         }
-        let refused = mine.number == 32 || mine.number == 51;
+        let refused = mine.number == REFUSED_LENT || mine.number == REFUSED_PAST_PLACES;
         let mut wanted = before;
         if !refused {
             wanted.live = padded.live;
@@ -97,7 +103,10 @@ impl Trial {
                 heard,
                 ("width", width.to_string()),
                 ("lent", lent.to_string()),
-                ("reader", format!("before {before:?}, afterwards {padded:?}")),
+                (
+                    "reader",
+                    format!("before {before:?}, afterwards {padded:?}"),
+                ),
             ];
             let found = [
                 told(&mine, &my_bytes, &their_bytes),
@@ -153,7 +162,7 @@ impl Trial {
             }
             let lent = 12 + self.random.below(20).saturating_sub(15);
             let (answer, bytes) = self.hear(&mut readers, *width, lent);
-            if answer.number <= 20 {
+            if answer.number <= FAULT_THIRTEENTH_BYTE {
                 told.push((answer, bytes[..answer.main + answer.response].to_vec()));
             }
             if self.random.once_in(3) {
@@ -181,8 +190,8 @@ impl Trial {
         let (answer, after, bytes) = hear();
         let mut wanted = (padded, before.clone());
         let number = match (live.inner[FULL], lent) {
-            (1.., _) => Some(51),
-            (0, 0..=11) => Some(32),
+            (1.., _) => Some(REFUSED_PAST_PLACES),
+            (0, 0..=11) => Some(REFUSED_LENT),
             _ => {
                 let first = AROUND..AROUND + 12;
                 wanted.0.live = after.live;
@@ -190,7 +199,10 @@ impl Trial {
                 None
             }
         };
-        let known = matches!(answer.number, 0 | 11..=20 | other_live::UNDECIDED);
+        let known = matches!(
+            answer.number,
+            FRAME | FAULT_NOISE..=FAULT_THIRTEENTH_BYTE | UNDECIDED
+        );
         let few = answer.main <= 12 && answer.response <= 12 - answer.main;
         let right = few && number.map_or(known, |number| answer == other_live::bare(number, 0));
         let same = hear() == (answer, after, bytes.clone());
@@ -215,8 +227,8 @@ impl Trial {
         let mut lent = padded;
         let answer = asked_of(&mut lent);
         let right = match answer.number {
-            1 => answer.opening == 0,
-            2 => answer.opening == answer.next,
+            QUIET => answer.opening == 0,
+            UNFINISHED => answer.opening == answer.next,
             _ => false,
         };
         let same = lent == padded && asked_of(&mut lent) == answer;
@@ -245,12 +257,12 @@ fn whole(line: &[u32], began: u64) -> (Vec<(Heard, Vec<u8>)>, Asked) {
         let answer = ours::read(line, from, &mut bytes);
         let place = |index: usize| began + index as u64;
         let (number, next) = (answer.number, place(answer.next));
-        let opening = if number == 0 || number == 2 {
+        let opening = if number == FRAME || number == UNFINISHED {
             place(answer.opening)
         } else {
             0
         };
-        if number == 1 || number == 2 {
+        if number == QUIET || number == UNFINISHED {
             let asked = Asked {
                 number,
                 next,

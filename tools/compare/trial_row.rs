@@ -1,6 +1,7 @@
 //! One call on a lent row put to both programs: the answers, every field of every station, every lent word and what stands
 //! around them have to agree.
 
+use crate::numbers::*;
 use crate::other_row;
 use crate::ours::{self, Called, Clock, Round, Station};
 use crate::random::Random;
@@ -149,7 +150,7 @@ impl Trial {
         let theirs = |row: &mut [Station], words: &mut [u32]| other_row::round(wrong, row, words);
         let case = || "a round".to_string();
         let (answer, words) = self.on_row(row, lent, "round", [&mine, &theirs], &case);
-        if answer.number == 0 {
+        if answer.number == DONE {
             for verdict in answer.verdicts {
                 self.tally.note("verdict", verdict.fared);
             }

@@ -1,5 +1,6 @@
 //! Traces: edges of the numbers and of the limits first, then random ones.
 
+use crate::numbers::*;
 use crate::ours::Gate;
 use crate::trial::Trial;
 
@@ -88,7 +89,7 @@ pub fn edges(trial: &mut Trial) {
                     active: *active,
                     passive: *passive,
                 };
-                let good = trial.intervals(gate, &[0.0], 2).number != 34;
+                let good = trial.intervals(gate, &[0.0], 2).number != REFUSED_GATE;
                 if !good {
                     continue;
                 }

@@ -98,7 +98,11 @@ impl Watch {
             std::process::exit(1);
         }
         for (place, verdict) in self.0.iter_mut().zip(answer.verdicts) {
-            let out = if verdict.fared == 1 { place.take() } else { None };
+            let out = if verdict.fared == 1 {
+                place.take()
+            } else {
+                None
+            };
             if let Some(waiting) = out {
                 let kind = match (waiting.disturbed, waiting.ahead) {
                     (false, 0) => 0,

@@ -2,6 +2,7 @@
 //! program writes and the other reads.
 
 use crate::check::with_check;
+use crate::numbers::*;
 use crate::other::plain_read;
 use crate::ours::{self, Clock};
 use crate::symbol::good_clock;
@@ -66,6 +67,14 @@ pub fn edges(trial: &mut Trial) {
                 let lent = [0, 1, 99, 100, WORDS, 102, 150];
                 lengths(trial, NOMINAL, main, kind, response, &lent);
             }
+        }
+    }
+    // Two inputs that are only read may overlap.
+    let bytes = [0x48, 0x6B, 0x10, 0x41, 0x0C, 0x1A, 0xF8, 0xFF];
+    for from in 0..bytes.len() {
+        for past in from..=bytes.len() {
+            trial.write(NOMINAL, &bytes[..5], 1, &bytes[from..past], WORDS);
+            trial.write(NOMINAL, &bytes[..5], 2, &bytes[from..past], WORDS);
         }
     }
 }
@@ -135,7 +144,7 @@ fn round_trip(trial: &mut Trial, clock: Clock, main: &[u8], kind: u32, response:
     for (who, answer, bytes) in [("second", by_second, bytes), ("proved", by_ours, again)] {
         let places = (answer.opening, answer.next) == (front.len(), front.len() + words.len() - 1);
         let parts = (answer.main, answer.response, answer.kind) == (first, all.len() - first, kind);
-        if answer.number != 0 || !places || !parts || bytes[..all.len()] != all {
+        if answer.number != FRAME || !places || !parts || bytes[..all.len()] != all {
             println!("compare: the {who} program does not read back what was written");
             println!("  clock {clock:?} main {main:?} kind {kind} response {response:?}");
             println!("  line {line:?}\n  answer {answer:?} bytes {bytes:?}");

@@ -2,7 +2,8 @@
 
 use super::Wrong;
 use crate::live::{self, Live};
-use crate::other_live::{bare, plain_ask, plain_hear, UNDECIDED};
+use crate::numbers::*;
+use crate::other_live::{bare, plain_ask, plain_hear};
 use crate::ours::{Asked, Heard};
 use crate::reading::MOST_BYTES;
 
@@ -28,8 +29,8 @@ fn hear_otherwise(wrong: Wrong, live: &mut Live, width: u32, bytes: &mut [u8]) -
     let odd = live.next.map_or(false, |place| place % 2 == 1);
     match (wrong, live.next) {
         (Wrong::LiveActiveAsPassive, _) if odd => Some(plain_hear(live, exchanged(width), bytes)),
-        (Wrong::LiveLastRefused, Some(u64::MAX)) => Some(bare(51, 0)),
-        (Wrong::LiveLentFirst, None) if few => Some(bare(32, 0)),
+        (Wrong::LiveLastRefused, Some(u64::MAX)) => Some(bare(REFUSED_PAST_PLACES, 0)),
+        (Wrong::LiveLentFirst, None) if few => Some(bare(REFUSED_LENT, 0)),
         (Wrong::LivePastTaken, None) => {
             *live = Live::resumed(0, live.from);
             Some(plain_hear(live, width, bytes))
@@ -43,11 +44,15 @@ fn hear_otherwise(wrong: Wrong, live: &mut Live, width: u32, bytes: &mut [u8]) -
         (Wrong::LiveLentAtClosing, Some(_)) if few => {
             let before = live.clone();
             let answer = plain_hear(live, width, &mut [0; MOST_BYTES]);
-            let closes = answer.number == 0;
+            let closes = answer.number == FRAME;
             if closes {
                 *live = before;
             }
-            Some(if closes { bare(32, 0) } else { answer })
+            Some(if closes {
+                bare(REFUSED_LENT, 0)
+            } else {
+                answer
+            })
         }
         _ => None,
     }
@@ -73,28 +78,32 @@ pub fn hear(wrong: Wrong, live: &mut Live, width: u32, bytes: &mut [u8]) -> Hear
     let mut right = plain_hear(live, width, bytes);
     let written = right.main + right.response;
     match (wrong, right.number) {
-        (Wrong::LiveClosingSwallowed, 0) => forget(live),
-        (Wrong::LiveFaultyEndSwallowed, 11..=20) => forget(live),
+        (Wrong::LiveClosingSwallowed, FRAME) => forget(live),
+        (Wrong::LiveFaultyEndSwallowed, FAULT_NOISE..=FAULT_THIRTEENTH_BYTE) => forget(live),
         (Wrong::LivePlacesIn32, _) => {
             right.next &= u64::from(u32::MAX);
             right.opening &= u64::from(u32::MAX);
         }
-        (Wrong::LiveFrameAtClosing, 0) => right.opening = right.next,
-        (Wrong::LiveFaultAtOpening, 11..=20) => right.next = opened.unwrap_or(right.next),
-        (Wrong::LiveUndecidedIsQuiet, UNDECIDED) => right.number = 1,
+        (Wrong::LiveFrameAtClosing, FRAME) => right.opening = right.next,
+        (Wrong::LiveFaultAtOpening, FAULT_NOISE..=FAULT_THIRTEENTH_BYTE) => {
+            right.next = opened.unwrap_or(right.next)
+        }
+        (Wrong::LiveUndecidedIsQuiet, UNDECIDED) => right.number = QUIET,
         (Wrong::LiveBytesEarly, UNDECIDED) => {
             let mut early = bytes.to_vec();
-            if plain_hear(&mut live.clone(), 300, &mut early).number == 0 {
+            if plain_hear(&mut live.clone(), 300, &mut early).number == FRAME {
                 bytes.copy_from_slice(&early);
             }
         }
-        (Wrong::LivePastCleared, 0) if written < bytes.len() => bytes[written] = 0,
-        (Wrong::LiveFaultWrites, 11..=20) => bytes[0] = !bytes[0],
-        (Wrong::LiveRefusedHeard, 32) => {
+        (Wrong::LivePastCleared, FRAME) if written < bytes.len() => bytes[written] = 0,
+        (Wrong::LiveFaultWrites, FAULT_NOISE..=FAULT_THIRTEENTH_BYTE) => bytes[0] = !bytes[0],
+        (Wrong::LiveRefusedHeard, REFUSED_LENT) => {
             plain_hear(live, width, &mut [0; MOST_BYTES]);
         }
-        (Wrong::LiveRefusedForgets, 32) => forget(live),
-        (Wrong::LiveRefusalWrites, 32 | 51) if !bytes.is_empty() => bytes[0] = !bytes[0],
+        (Wrong::LiveRefusedForgets, REFUSED_LENT) => forget(live),
+        (Wrong::LiveRefusalWrites, REFUSED_LENT | REFUSED_PAST_PLACES) if !bytes.is_empty() => {
+            bytes[0] = !bytes[0]
+        }
         _ => {}
     }
     right
@@ -112,14 +121,14 @@ pub fn ask(wrong: Wrong, live: &mut Live) -> Asked {
             right.next &= u64::from(u32::MAX);
             right.opening &= u64::from(u32::MAX);
         }
-        (Wrong::LiveQuietForUnfinished, 2) => right = told(1, live.from, 0),
-        (Wrong::LiveUnfinishedAtOnce, 1) => {
+        (Wrong::LiveQuietForUnfinished, UNFINISHED) => right = told(QUIET, live.from, 0),
+        (Wrong::LiveUnfinishedAtOnce, QUIET) => {
             if let Some(opening) = opening(live) {
-                right = told(2, opening, opening);
+                right = told(UNFINISHED, opening, opening);
             }
         }
-        (Wrong::LiveQuietAtNext, 1) => right.next = live.next.unwrap_or(right.next),
-        (Wrong::LiveAskingForgets, 2) => forget(live),
+        (Wrong::LiveQuietAtNext, QUIET) => right.next = live.next.unwrap_or(right.next),
+        (Wrong::LiveAskingForgets, UNFINISHED) => forget(live),
         _ => {}
     }
     right

@@ -2,6 +2,7 @@
 
 use super::Wrong;
 use crate::check::check;
+use crate::numbers::*;
 use crate::other::plain_read;
 use crate::ours::Read;
 
@@ -61,58 +62,62 @@ pub fn read(wrong: Wrong, intervals: &[u32], from: usize, bytes: &mut [u8]) -> R
         main: 0,
         response: 0,
     };
-    let opens = if right.number < 31 {
+    let opens = if right.number < REFUSED_POSITION {
         opening(intervals, from)
     } else {
         None
     };
     let written = right.main + right.response;
     match (wrong, right.number) {
-        (Wrong::ClosingSwallowed, 0) => right.next += 1,
-        (Wrong::QuietAtOpening, 1) => right.next = opens.unwrap_or(from),
-        (Wrong::UnfinishedAtPosition, 2) => right.next = from,
-        (Wrong::JudgedBeforeOpening, 0..=20) => {
+        (Wrong::ClosingSwallowed, FRAME) => right.next += 1,
+        (Wrong::QuietAtOpening, QUIET) => right.next = opens.unwrap_or(from),
+        (Wrong::UnfinishedAtPosition, UNFINISHED) => right.next = from,
+        (Wrong::JudgedBeforeOpening, FRAME..=FAULT_THIRTEENTH_BYTE) => {
             let past = opens.unwrap_or(intervals.len());
             if let Some(noise) = (from..past).find(|i| intervals[*i] <= 34) {
                 bytes.copy_from_slice(&before);
-                return bare(11, noise);
+                return bare(FAULT_NOISE, noise);
             }
         }
-        (Wrong::FewBeforeSplit, 16) if few_too(intervals, opens.unwrap_or(0), right.next) => {
-            right.number = 17;
+        (Wrong::FewBeforeSplit, FAULT_SPLIT_BYTE)
+            if few_too(intervals, opens.unwrap_or(0), right.next) =>
+        {
+            right.number = FAULT_FEW_BYTES;
         }
-        (Wrong::ResidueZero, 0) => {
+        (Wrong::ResidueZero, FRAME) => {
             bytes.copy_from_slice(&before);
-            return bare(18, right.opening + 2 + 8 * right.main);
+            return bare(FAULT_WRONG_CHECK, right.opening + 2 + 8 * right.main);
         }
-        (Wrong::NormalizationCounted, 0) if right.kind != 0 => {
+        (Wrong::NormalizationCounted, FRAME) if right.kind != 0 => {
             bytes.copy_from_slice(&before);
-            return bare(16, right.next);
+            return bare(FAULT_SPLIT_BYTE, right.next);
         }
-        (Wrong::PlainChecked, 0) if right.kind == 1 => {
+        (Wrong::PlainChecked, FRAME) if right.kind == 1 => {
             let response = &bytes[right.main..written];
             let (last, rest) = response.split_last().expect("a response has bytes");
             if *last != check(rest) {
                 bytes.copy_from_slice(&before);
-                return bare(18, right.next);
+                return bare(FAULT_WRONG_CHECK, right.next);
             }
         }
-        (Wrong::LateSofAtNormalization, 15) => {
+        (Wrong::LateSofAtNormalization, FAULT_LATE_SOF) => {
             let at_eod = eod(intervals, opens.unwrap_or(0), right.next);
             if at_eod.map_or(false, |eod| eod + 1 == right.next) {
-                right.number = 12;
+                right.number = FAULT_NO_SOF;
             }
         }
-        (Wrong::KindsExchanged, 0) if right.kind != 0 => right.kind = 3 - right.kind,
-        (Wrong::EndIsPast, 1) if from == intervals.len() => return bare(31, 0),
-        (Wrong::LentBeforePosition, 31) if bytes.len() < 12 => right.number = 32,
-        (Wrong::ElevenBytesEnough, 32) if bytes.len() == 11 => {
+        (Wrong::KindsExchanged, FRAME) if right.kind != 0 => right.kind = 3 - right.kind,
+        (Wrong::EndIsPast, QUIET) if from == intervals.len() => return bare(REFUSED_POSITION, 0),
+        (Wrong::LentBeforePosition, REFUSED_POSITION) if bytes.len() < 12 => {
+            right.number = REFUSED_LENT
+        }
+        (Wrong::ElevenBytesEnough, REFUSED_LENT) if bytes.len() == 11 => {
             let mut more = [before.as_slice(), &[0]].concat();
             right = plain_read(intervals, from, &mut more);
             bytes.copy_from_slice(&more[..11]);
         }
-        (Wrong::ReadPastCleared, 0) if written < bytes.len() => bytes[written] = 0,
-        (Wrong::FaultWrites, 11..=20) => bytes[0] = !bytes[0],
+        (Wrong::ReadPastCleared, FRAME) if written < bytes.len() => bytes[written] = 0,
+        (Wrong::FaultWrites, FAULT_NOISE..=FAULT_THIRTEENTH_BYTE) => bytes[0] = !bytes[0],
         _ => {}
     }
     right

@@ -4,6 +4,7 @@
 use super::row::{forgiven, put_back, refused_first};
 use super::Wrong;
 use crate::check::{bits_of, with_check};
+use crate::numbers::*;
 use crate::other_row::{plain_round, turned_away, IDLE};
 use crate::ours::{Clock, Round, Station, Verdict};
 
@@ -199,16 +200,20 @@ pub fn round(wrong: Wrong, row: &mut [Station], words: &mut [u32]) -> Round {
             put_back(row, &before, &after);
             return answer;
         }
-        (Wrong::RoundHundredEnough, 32) if words.len() == 100 && !nobody => {
+        (Wrong::RoundHundredEnough, REFUSED_LENT) if words.len() == 100 && !nobody => {
             let mut more = [0; WORDS];
             let answer = plain_round(row, &mut more);
             words.copy_from_slice(&more[..100]);
             return answer;
         }
-        (Wrong::RoundWordsFirst, 39) if words.len() < WORDS => return turned_away(32),
-        (Wrong::NobodyBeforeWords, 32) if nobody => return turned_away(42),
-        (Wrong::RefusedRoundWrites, 32 | 39) if !words.is_empty() => words[0] = !words[0],
-        (Wrong::RefusedRoundEmpties, 32) => row.iter_mut().for_each(|s| s.length = 0),
+        (Wrong::RoundWordsFirst, REFUSED_ROW_UNSOUND) if words.len() < WORDS => {
+            return turned_away(REFUSED_LENT)
+        }
+        (Wrong::NobodyBeforeWords, REFUSED_LENT) if nobody => return turned_away(REFUSED_NOTHING),
+        (Wrong::RefusedRoundWrites, REFUSED_LENT | REFUSED_ROW_UNSOUND) if !words.is_empty() => {
+            words[0] = !words[0]
+        }
+        (Wrong::RefusedRoundEmpties, REFUSED_LENT) => row.iter_mut().for_each(|s| s.length = 0),
         _ => {}
     }
     right

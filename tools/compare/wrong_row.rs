@@ -1,6 +1,7 @@
 //! Loading, withdrawing and setting a clock with one rule altered.
 
 use super::Wrong;
+use crate::numbers::*;
 use crate::other::second_clock;
 use crate::other_row::{called, plain_load, plain_set_clock, plain_withdraw};
 use crate::ours::{Called, Clock, Station};
@@ -15,8 +16,10 @@ fn unsound(station: &Station) -> bool {
 pub fn refused_first(wrong: Wrong, row: &[Station]) -> Option<u32> {
     let bad_size = row.is_empty() || row.len() > 32;
     match wrong {
-        Wrong::RowOf32Refused if row.len() == 32 => Some(38),
-        Wrong::UnsoundBeforeSize if bad_size && row.iter().any(unsound) => Some(39),
+        Wrong::RowOf32Refused if row.len() == 32 => Some(REFUSED_ROW_SIZE),
+        Wrong::UnsoundBeforeSize if bad_size && row.iter().any(unsound) => {
+            Some(REFUSED_ROW_UNSOUND)
+        }
         _ => None,
     }
 }
@@ -72,8 +75,10 @@ fn at_place(
     };
     let right = call(&mut after, place);
     match (wrong, right.number) {
-        (Wrong::PlaceBeforeUnsound, 39) if place >= row.len() => return called(Err(40)),
-        (Wrong::OfferedBeforePlace, 40) if offered > 0 => return called(Err(offered)),
+        (Wrong::PlaceBeforeUnsound, REFUSED_ROW_UNSOUND) if place >= row.len() => {
+            return called(Err(REFUSED_PLACE))
+        }
+        (Wrong::OfferedBeforePlace, REFUSED_PLACE) if offered > 0 => return called(Err(offered)),
         _ => put_back(row, &before, &after),
     }
     right
@@ -81,7 +86,7 @@ fn at_place(
 
 pub fn load(wrong: Wrong, row: &mut [Station], place: usize, message: &[u8]) -> Called {
     let bad = message.is_empty() || message.len() > 11;
-    let offered = if bad { 37 } else { 0 };
+    let offered = if bad { REFUSED_MESSAGE } else { DONE };
     let right = at_place(wrong, row, place, offered, &|row, place| {
         plain_load(row, place, message)
     });
@@ -90,19 +95,21 @@ pub fn load(wrong: Wrong, row: &mut [Station], place: usize, message: &[u8]) -> 
         None => return right,
     };
     match (wrong, right.number) {
-        (Wrong::HeldBeforeMessage, 37) if station.length > 0 => return called(Err(41)),
-        (Wrong::ElevenNotLoaded, 0) if message.len() == 11 => {
-            station.length = 0;
-            return called(Err(37));
+        (Wrong::HeldBeforeMessage, REFUSED_MESSAGE) if station.length > 0 => {
+            return called(Err(REFUSED_HOLDS))
         }
-        (Wrong::LoadClearsRest, 0) => station.bytes[message.len()..].fill(0),
-        (Wrong::LoadedBackwards, 0) => station.bytes[..message.len()].reverse(),
-        (Wrong::LoadedOver, 41) => {
+        (Wrong::ElevenNotLoaded, DONE) if message.len() == 11 => {
+            station.length = 0;
+            return called(Err(REFUSED_MESSAGE));
+        }
+        (Wrong::LoadClearsRest, DONE) => station.bytes[message.len()..].fill(0),
+        (Wrong::LoadedBackwards, DONE) => station.bytes[..message.len()].reverse(),
+        (Wrong::LoadedOver, REFUSED_HOLDS) => {
             station.bytes[..message.len()].copy_from_slice(message);
             station.length = message.len() as u8;
             return called(Ok(()));
         }
-        (Wrong::RefusedLoadStores, 41) => station.bytes[0] = !station.bytes[0],
+        (Wrong::RefusedLoadStores, REFUSED_HOLDS) => station.bytes[0] = !station.bytes[0],
         _ => {}
     }
     right
@@ -113,8 +120,8 @@ pub fn withdraw(wrong: Wrong, row: &mut [Station], place: usize) -> Called {
         plain_withdraw(row, place)
     });
     match (wrong, right.number) {
-        (Wrong::WithdrawClears, 0) => row[place].bytes.fill(0),
-        (Wrong::NothingWithdrawn, 42) => return called(Ok(())),
+        (Wrong::WithdrawClears, DONE) => row[place].bytes.fill(0),
+        (Wrong::NothingWithdrawn, REFUSED_NOTHING) => return called(Ok(())),
         _ => {}
     }
     right
@@ -122,18 +129,18 @@ pub fn withdraw(wrong: Wrong, row: &mut [Station], place: usize) -> Called {
 
 pub fn set_clock(wrong: Wrong, row: &mut [Station], place: usize, clock: Clock) -> Called {
     let bad = !good_clock(second_clock(clock));
-    let offered = if bad { 36 } else { 0 };
+    let offered = if bad { REFUSED_CLOCK } else { DONE };
     let before = row.get(place).copied();
     let right = at_place(wrong, row, place, offered, &|row, place| {
         plain_set_clock(row, place, clock)
     });
     match (wrong, right.number, before) {
-        (Wrong::HolderKeepsClock, 0, Some(before)) if before.length > 0 => {
+        (Wrong::HolderKeepsClock, DONE, Some(before)) if before.length > 0 => {
             row[place] = before;
-            return called(Err(41));
+            return called(Err(REFUSED_HOLDS));
         }
-        (Wrong::SofNotSet, 0, Some(before)) => row[place].clock.sof = before.clock.sof,
-        (Wrong::ClockEmpties, 0, _) => row[place].length = 0,
+        (Wrong::SofNotSet, DONE, Some(before)) => row[place].clock.sof = before.clock.sof,
+        (Wrong::ClockEmpties, DONE, _) => row[place].length = 0,
         _ => {}
     }
     right

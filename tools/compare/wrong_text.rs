@@ -2,6 +2,7 @@
 //! alteration it has to agree with the library like the second program's own.
 
 use super::Wrong;
+use crate::numbers::*;
 use crate::other::plain_read;
 use crate::other_row::{before_line, plain_desk, DESK_BYTES, DESK_WORDS};
 use crate::ours::{Desk, Read};
@@ -61,17 +62,17 @@ fn hex(wrong: Wrong, bytes: &[u8]) -> String {
 fn columns(wrong: Wrong, recording: &[u32], from: usize, answer: Read, bytes: &[u8]) -> String {
     let opening = (from..recording.len()).find(|i| i % 2 == 0 && recording[*i] >= 240);
     let at = match (wrong, answer.number) {
-        (Wrong::FrameAtClosing, 0) => answer.next,
-        (Wrong::FaultAtOpening, 11..) => opening.unwrap_or(from),
-        (Wrong::QuietAtTheEnd, 1) => recording.len(),
-        (Wrong::UnfinishedLineAtPosition, 2) => from,
-        (_, 0) => answer.opening,
+        (Wrong::FrameAtClosing, FRAME) => answer.next,
+        (Wrong::FaultAtOpening, FAULT_NOISE..) => opening.unwrap_or(from),
+        (Wrong::QuietAtTheEnd, QUIET) => recording.len(),
+        (Wrong::UnfinishedLineAtPosition, UNFINISHED) => from,
+        (_, FRAME) => answer.opening,
         _ => answer.next,
     };
     let (kind, number) = match answer.number {
-        0 => ("frame", String::new()),
-        1 => ("quiet", String::new()),
-        2 => ("unfinished", String::new()),
+        FRAME => ("frame", String::new()),
+        QUIET => ("quiet", String::new()),
+        UNFINISHED => ("unfinished", String::new()),
         fault => ("fault-", fault.to_string()),
     };
     let dash = if wrong == Wrong::NothingForNone {
@@ -79,7 +80,7 @@ fn columns(wrong: Wrong, recording: &[u32], from: usize, answer: Read, bytes: &[
     } else {
         "-"
     };
-    if answer.number != 0 {
+    if answer.number != FRAME {
         return format!("{at}\t{kind}{number}\t{dash}\t{dash}\n");
     }
     let (main, rest) = bytes.split_at(answer.main);
@@ -115,7 +116,7 @@ fn report(wrong: Wrong, input: &[u8], recording: &[u32]) -> String {
     loop {
         let mut bytes = [0; 12];
         let answer = plain_read(recording, from, &mut bytes);
-        let last = answer.number == 1 || answer.number == 2;
+        let last = answer.number == QUIET || answer.number == UNFINISHED;
         if !(last && wrong == Wrong::LastAnswerLeftOut) {
             let rest = columns(wrong, recording, from, answer, &bytes);
             page += &format!("{customer}\t{vehicle}\t{rest}");
@@ -167,11 +168,11 @@ pub fn desk(wrong: Wrong, input: &[u8], words: &mut [u32], bytes: &mut [u8]) -> 
     let input = altered(wrong, input);
     let mut right = plain_desk(&input, words, &mut bytes.to_vec());
     let page = match right.number {
-        0 => {
+        DONE => {
             let recording = order(&input).map_or(Vec::new(), |order| order.recording);
             report(wrong, &input, &recording)
         }
-        62 => {
+        BAD_INPUT => {
             let (line, page) = refusal(wrong, &input, right.line);
             right.line = line;
             page
@@ -187,7 +188,7 @@ pub fn desk(wrong: Wrong, input: &[u8], words: &mut [u32], bytes: &mut [u8]) -> 
     bytes[..page.len()].copy_from_slice(page.as_bytes());
     let written = words.iter().zip(&before).filter(|(a, b)| a != b).count();
     match (wrong, right.number) {
-        (Wrong::RefusedWordsLaid, 62) => {
+        (Wrong::RefusedWordsLaid, BAD_INPUT) => {
             let widths = order(before_line(&input, right.line)).map_or(Vec::new(), |order| order.recording);
             words[..widths.len()].copy_from_slice(&widths);
         }

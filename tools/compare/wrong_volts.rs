@@ -1,6 +1,7 @@
 //! Volts to intervals with one rule altered.
 
 use super::Wrong;
+use crate::numbers::*;
 use crate::other::{counted, second_gate};
 use crate::ours::{Counted, Gate};
 use crate::symbol::Level;
@@ -77,7 +78,7 @@ fn usable(gate: Gate, sample: f32) -> bool {
 pub fn intervals(wrong: Wrong, gate: Gate, samples: &[f32], words: &mut [u32]) -> Counted {
     let before = words.to_vec();
     let right = counted(right_intervals(second_gate(gate), samples, words));
-    if right.number == 0 {
+    if right.number == DONE {
         if let Some(found) = judged_wrong(wrong, gate, samples) {
             return rewritten(&found, &before, words);
         }
@@ -85,11 +86,11 @@ pub fn intervals(wrong: Wrong, gate: Gate, samples: &[f32], words: &mut [u32]) -
     let all_finite = samples.iter().all(|s| s.is_finite());
     let refused = |number| counted(Err(number));
     match (wrong, right.number) {
-        (Wrong::FirstZeroDropped, 0) if right.count > 1 && words[0] == 0 => {
+        (Wrong::FirstZeroDropped, DONE) if right.count > 1 && words[0] == 0 => {
             let found = words[1..right.count].to_vec();
             rewritten(&found, &before, words)
         }
-        (Wrong::OverflowUsable, 35) if all_finite => {
+        (Wrong::OverflowUsable, REFUSED_UNUSABLE) if all_finite => {
             let judge = |s| {
                 by_tests(
                     s - gate.offset >= gate.active,
@@ -99,25 +100,31 @@ pub fn intervals(wrong: Wrong, gate: Gate, samples: &[f32], words: &mut [u32]) -
             let found = judged_by(Level::Passive, samples, judge);
             rewritten(&found, &before, words)
         }
-        (Wrong::LongestRefused, 0) if samples.len() == 16_384 => {
+        (Wrong::LongestRefused, DONE) if samples.len() == 16_384 => {
             words.copy_from_slice(&before);
-            refused(33)
+            refused(REFUSED_SAMPLES)
         }
-        (Wrong::WordsAsSamples, 32) if words.len() == samples.len() => {
+        (Wrong::WordsAsSamples, REFUSED_LENT) if words.len() == samples.len() => {
             let mut more = before.clone();
             more.push(0);
             let answer = intervals(Wrong::Nothing, gate, samples, &mut more);
             words.copy_from_slice(&more[..words.len()]);
             answer
         }
-        (Wrong::GateBeforeLength, 33) if !good_gate(second_gate(gate)) => refused(34),
-        (Wrong::WordsBeforeGate, 34) if words.len() <= samples.len() => refused(32),
-        (Wrong::SampleBeforeWords, 32) if !samples.iter().all(|s| usable(gate, *s)) => refused(35),
-        (Wrong::TraceRefusalWrites, 35) => {
+        (Wrong::GateBeforeLength, REFUSED_SAMPLES) if !good_gate(second_gate(gate)) => {
+            refused(REFUSED_GATE)
+        }
+        (Wrong::WordsBeforeGate, REFUSED_GATE) if words.len() <= samples.len() => {
+            refused(REFUSED_LENT)
+        }
+        (Wrong::SampleBeforeWords, REFUSED_LENT) if !samples.iter().all(|s| usable(gate, *s)) => {
+            refused(REFUSED_UNUSABLE)
+        }
+        (Wrong::TraceRefusalWrites, REFUSED_UNUSABLE) => {
             words[0] = !words[0];
             right
         }
-        (Wrong::TracePastCleared, 0) if right.count < words.len() => {
+        (Wrong::TracePastCleared, DONE) if right.count < words.len() => {
             words[right.count] = 0;
             right
         }

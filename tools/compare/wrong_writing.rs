@@ -2,6 +2,7 @@
 
 use super::Wrong;
 use crate::check::check;
+use crate::numbers::*;
 use crate::other::{counted, plain_write};
 use crate::ours::{Clock, Counted};
 
@@ -14,7 +15,7 @@ fn bad_message(main: &[u8], kind: u32, response: &[u8]) -> bool {
         long: 128,
         sof: 200,
     };
-    plain_write(nominal, main, kind, response, &mut [0; WORDS]).number == 37
+    plain_write(nominal, main, kind, response, &mut [0; WORDS]).number == REFUSED_MESSAGE
 }
 
 /// The same words but for an exchange of short and long at one place.
@@ -61,7 +62,7 @@ pub fn write(
     let right = plain_write(clock, main, kind, response, words);
     let refused = |number| counted(Err(number));
     let eod = 2 + 8 * (main.len() + 1);
-    if right.number == 0 {
+    if right.number == DONE {
         let mut again = before.clone();
         if let Some(answer) = written_otherwise(wrong, clock, main, kind, response, &mut again) {
             words.copy_from_slice(&again);
@@ -69,30 +70,38 @@ pub fn write(
         }
     }
     match (wrong, right.number) {
-        (Wrong::NormalizationExchanged, 0) if kind != 0 => exchange(clock, &mut words[eod + 1]),
-        (Wrong::EodLong, 0) if kind != 0 => words[eod] = clock.long,
-        (Wrong::ResponseCounted, 0) if kind == 0 && main.len() + 1 + response.len() > 12 => {
+        (Wrong::NormalizationExchanged, DONE) if kind != 0 => exchange(clock, &mut words[eod + 1]),
+        (Wrong::EodLong, DONE) if kind != 0 => words[eod] = clock.long,
+        (Wrong::ResponseCounted, DONE) if kind == 0 && main.len() + 1 + response.len() > 12 => {
             words.copy_from_slice(&before);
-            return refused(37);
+            return refused(REFUSED_MESSAGE);
         }
-        (Wrong::ClosingLeftOut, 0) => {
+        (Wrong::ClosingLeftOut, DONE) => {
             words[right.count - 1] = before[right.count - 1];
             return counted(Ok(right.count - 1));
         }
-        (Wrong::HundredEnough, 32) if words.len() == 100 => {
+        (Wrong::HundredEnough, REFUSED_LENT) if words.len() == 100 => {
             let mut more = [before.as_slice(), &[0]].concat();
             let answer = plain_write(clock, main, kind, response, &mut more);
             words.copy_from_slice(&more[..100]);
             return answer;
         }
-        (Wrong::ElevenRefused, 0) if main.len() == 11 => {
+        (Wrong::ElevenRefused, DONE) if main.len() == 11 => {
             words.copy_from_slice(&before);
-            return refused(37);
+            return refused(REFUSED_MESSAGE);
         }
-        (Wrong::MessageBeforeClock, 36) if bad_message(main, kind, response) => return refused(37),
-        (Wrong::WordsBeforeMessage, 37) if words.len() < WORDS => return refused(32),
-        (Wrong::WriteRefusalWrites, 32 | 36 | 37) if !words.is_empty() => words[0] = !words[0],
-        (Wrong::WritePastCleared, 0) if right.count < words.len() => words[right.count] = 0,
+        (Wrong::MessageBeforeClock, REFUSED_CLOCK) if bad_message(main, kind, response) => {
+            return refused(REFUSED_MESSAGE)
+        }
+        (Wrong::WordsBeforeMessage, REFUSED_MESSAGE) if words.len() < WORDS => {
+            return refused(REFUSED_LENT)
+        }
+        (Wrong::WriteRefusalWrites, REFUSED_LENT | REFUSED_CLOCK | REFUSED_MESSAGE)
+            if !words.is_empty() =>
+        {
+            words[0] = !words[0]
+        }
+        (Wrong::WritePastCleared, DONE) if right.count < words.len() => words[right.count] = 0,
         _ => {}
     }
     right

@@ -75,12 +75,12 @@ static void volts(unsigned times) {
 static size_t some_frame(uint32_t *at) {
     uint8_t main_bytes[12];
     uint8_t response[12];
-    uint32_t frame[101];
+    uint32_t frame[J1850_FRAME_WORDS];
     size_t length = 1 + any(6);
     uint32_t kind = any(3);
     some_bytes(main_bytes, length);
     some_bytes(response, 4);
-    j1850_count_answer r = j1850_write((j1850_clock){64, 128, 200}, main_bytes, length, kind, response, 1 + any(3), frame, 101);
+    j1850_count_answer r = j1850_write((j1850_clock){64, 128, 200}, main_bytes, length, kind, response, 1 + any(3), frame, J1850_FRAME_WORDS);
     memcpy(at, frame, r.count * sizeof *at);
     return r.count;
 }
@@ -111,7 +111,7 @@ static void frames(unsigned times) {
         line[i] = i == 0 ? 300 : i == 1 ? 200 : 64;
     for (uint32_t i = 40; i < 110; i++)
         line[i] = 64;
-    trial((job){.which = READ, .lent = {in(line, 110, 4), out(bytes, 12, 1)}});
+    trial((job){.which = READ, .lent = {in(line, 110, 4), out(bytes, J1850_FRAME_BYTES, 1)}});
 }
 
 /* A frame with a checked response and one interval replaced, so that each fault but the thirteenth byte's is met; the number
@@ -123,8 +123,8 @@ static size_t harmed_frame(uint32_t *at, size_t which) {
     } harms[] = {{1, 64}, {3, 34}, {3, 240}, {3, 1000000}, {3, 200}, {4, 300}, {10, 300}, {2, 128}, {52, 200}};
     const uint8_t message[] = {0x08, 0xFF, 0x10};
     const uint8_t response[] = {0x28};
-    uint32_t frame[101];
-    j1850_count_answer r = j1850_write((j1850_clock){64, 128, 200}, message, 3, J1850_CHECKED, response, 1, frame, 101);
+    uint32_t frame[J1850_FRAME_WORDS];
+    j1850_count_answer r = j1850_write((j1850_clock){64, 128, 200}, message, 3, J1850_CHECKED, response, 1, frame, J1850_FRAME_WORDS);
     if (which < sizeof harms / sizeof *harms)
         frame[harms[which].place] = harms[which].width;
     memcpy(at, frame, r.count * sizeof *at);
@@ -134,10 +134,10 @@ static size_t harmed_frame(uint32_t *at, size_t which) {
 /* A recording heard interval by interval, with questions in between. */
 static void heard(j1850_live reader, const uint32_t *line, size_t count) {
     static const size_t lent_bytes[] = {0, 11, 12, 12, 12, 13};
-    uint8_t enough[12];
+    uint8_t enough[J1850_FRAME_BYTES];
     for (size_t i = 0; i < count; i++) {
         trial((job){.which = HEAR, .number = line[i], .lent = {out(&reader, 1, sizeof reader), out(bytes, ONE_OF(lent_bytes), 1)}});
-        trial((job){.which = HEAR, .number = line[i], .lent = {out(&reader, 1, sizeof reader), out(bytes, 12, 1)}});
+        trial((job){.which = HEAR, .number = line[i], .lent = {out(&reader, 1, sizeof reader), out(bytes, J1850_FRAME_BYTES, 1)}});
         trial((job){.which = ASK, .lent = {in(&reader, 1, sizeof reader)}});
         j1850_hear(&reader, line[i], enough, sizeof enough);
     }

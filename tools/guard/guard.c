@@ -16,11 +16,6 @@
 
 enum { PAGE = 4096, ARENA = 128 * PAGE, SLACK = 512, ARENAS = 3, SAID = 80, PATTERN = 0xA5 };
 
-/* the layout that the library was built with */
-_Static_assert(sizeof(j1850_station) == 24 && offsetof(j1850_station, bytes) == 12 && offsetof(j1850_station, length) == 23, "a station");
-_Static_assert(sizeof(j1850_verdict) == 16 && offsetof(j1850_round_answer, verdicts) == 16 && sizeof(j1850_round_answer) == 528, "a round's answer");
-_Static_assert(sizeof(j1850_live) == 64 && sizeof(j1850_heard_answer) == 40 && sizeof(j1850_asked_answer) == 24, "a live reader and its answers");
-
 unsigned long tally[CALLS][64];
 
 static uint8_t *arenas[ARENAS]; /* each between two pages that cannot be touched */
@@ -188,26 +183,31 @@ void trial(job wanted) {
         free(exact[i]);
 }
 
+#define EACH_FAULT                                                                                                               \
+    J1850_FAULT_NOISE, J1850_FAULT_NO_SOF, J1850_FAULT_BREAK, J1850_FAULT_STUCK, J1850_FAULT_LATE_SOF, J1850_FAULT_SPLIT_BYTE,  \
+        J1850_FAULT_FEW_BYTES, J1850_FAULT_WRONG_CHECK, J1850_FAULT_EOD_AFTER_RESPONSE, J1850_FAULT_THIRTEENTH_BYTE
+#define EACH_AT_A_PLACE J1850_REFUSED_ROW_SIZE, J1850_REFUSED_ROW_UNSOUND, J1850_REFUSED_PLACE
+
 /* Every number of the documents that a call can answer, and the library's own. */
 static const struct {
     enum call which;
     const char *name;
     int numbers[16];
 } wanted_answers[] = {
-    {CHECK_BYTE, "check byte", {0, -1}},
-    {CLASS, "class", {0, -1}},
-    {GOOD_CLOCK, "good clock", {0, -1}},
-    {INTERVALS, "intervals", {0, 33, 34, 32, 35, -1}},
-    {WRITE, "write", {0, 36, 37, 32, -1}},
-    {READ, "read", {0, 1, 2, 11, 12, 13, 14, 15, 16, 17, 18, 19, 20, 31, 32, -1}},
-    {LIVE_START, "live start", {0, -1}},
-    {HEAR, "hear", {0, 11, 12, 13, 14, 15, 16, 17, 18, 19, 20, 51, 32, 63, -1}},
-    {ASK, "ask", {1, 2, -1}},
-    {LOAD, "load", {0, 38, 39, 40, 37, 41, -1}},
-    {WITHDRAW, "withdraw", {0, 38, 39, 40, 42, -1}},
-    {SET_CLOCK, "set clock", {0, 38, 39, 40, 36, -1}},
-    {ROUND, "round", {0, 38, 39, 32, 42, -1}},
-    {DESK, "desk", {0, 61, 62, -1}},
+    {CHECK_BYTE, "check byte", {J1850_DONE, -1}},
+    {CLASS, "class", {J1850_DONE, -1}},
+    {GOOD_CLOCK, "good clock", {J1850_DONE, -1}},
+    {INTERVALS, "intervals", {J1850_DONE, J1850_REFUSED_SAMPLES, J1850_REFUSED_GATE, J1850_REFUSED_LENT, J1850_REFUSED_UNUSABLE, -1}},
+    {WRITE, "write", {J1850_DONE, J1850_REFUSED_CLOCK, J1850_REFUSED_MESSAGE, J1850_REFUSED_LENT, -1}},
+    {READ, "read", {J1850_FRAME, J1850_QUIET, J1850_UNFINISHED, EACH_FAULT, J1850_REFUSED_POSITION, J1850_REFUSED_LENT, -1}},
+    {LIVE_START, "live start", {J1850_DONE, -1}},
+    {HEAR, "hear", {J1850_FRAME, EACH_FAULT, J1850_REFUSED_PAST_PLACES, J1850_REFUSED_LENT, J1850_UNDECIDED, -1}},
+    {ASK, "ask", {J1850_QUIET, J1850_UNFINISHED, -1}},
+    {LOAD, "load", {J1850_DONE, EACH_AT_A_PLACE, J1850_REFUSED_MESSAGE, J1850_REFUSED_HOLDS, -1}},
+    {WITHDRAW, "withdraw", {J1850_DONE, EACH_AT_A_PLACE, J1850_REFUSED_NOTHING, -1}},
+    {SET_CLOCK, "set clock", {J1850_DONE, EACH_AT_A_PLACE, J1850_REFUSED_CLOCK, -1}},
+    {ROUND, "round", {J1850_DONE, J1850_REFUSED_ROW_SIZE, J1850_REFUSED_ROW_UNSOUND, J1850_REFUSED_LENT, J1850_REFUSED_NOTHING, -1}},
+    {DESK, "desk", {J1850_DONE, J1850_REFUSED_DESK_LENT, J1850_BAD_INPUT, -1}},
 };
 
 static void report(void) {
@@ -216,7 +216,7 @@ static void report(void) {
         for (const int *n = wanted_answers[i].numbers; *n >= 0; n++) {
             unsigned long times = tally[wanted_answers[i].which][*n];
             if (times == 0) {
-                fprintf(stderr, "guard: %s never answered %d\n", wanted_answers[i].name, *n);
+                fprintf(stderr, "guard: %s never answered %d, %s\n", wanted_answers[i].name, *n, j1850_words((uint32_t)*n));
                 exit(1);
             }
             sum += times;
@@ -234,25 +234,25 @@ static j1850_count_answer longest(uint32_t *words, size_t length) {
 /* A deliberately wrong call, which has to be caught. */
 static int wrong(const char *name) {
     static const uint8_t message[11];
-    static uint32_t space[101];
-    slice words = {space, 100, sizeof *space, true};
+    static uint32_t space[J1850_FRAME_WORDS];
+    slice words = {space, J1850_FRAME_WORDS - 1, sizeof *space, true};
     slice bytes = {message, 11, 1, false};
 
     if (strcmp(name, "past-the-end") == 0) { /* 101 words are claimed, and 100 lent */
-        longest(lend(0, words, true), 101);
+        longest(lend(0, words, true), J1850_FRAME_WORDS);
     } else if (strcmp(name, "before-the-start") == 0) {
-        longest((uint32_t *)lend(0, words, false) - 1, 101);
+        longest((uint32_t *)lend(0, words, false) - 1, J1850_FRAME_WORDS);
     } else if (strcmp(name, "read-past-the-end") == 0) {
         j1850_check_byte(lend(0, bytes, true), 12);
     } else if (strcmp(name, "written-input") == 0) { /* what is lent to be read is written */
-        void *input = lend(0, (slice){space, 101, sizeof *space, false}, true);
-        longest(input, 101);
+        void *input = lend(0, (slice){space, J1850_FRAME_WORDS, sizeof *space, false}, true);
+        longest(input, J1850_FRAME_WORDS);
     } else if (strcmp(name, "short-reader") == 0) { /* 7 words are lent as a live reader, which has 8 */
-        uint8_t heard[12];
+        uint8_t heard[J1850_FRAME_BYTES];
         j1850_hear(lend(0, (slice){space, 7, sizeof(uint64_t), true}, true), 300, heard, sizeof heard);
     } else if (strcmp(name, "beside") == 0) { /* the word past the lent ones can be touched, and is seen to be written */
         void *at = lend(0, words, false);
-        longest(at, 101);
+        longest(at, J1850_FRAME_WORDS);
         take_back(0, words, false, at, at);
     } else if (strcmp(name, "sanitized-copy") == 0) { /* for the build with sanitizers: more bytes are claimed than there are */
         uint8_t *few = calloc(5, 1);
@@ -261,7 +261,7 @@ static int wrong(const char *name) {
         free(few);
     } else if (strcmp(name, "sanitized-read") == 0) { /* the same: a word is read past those of the answer */
         uint32_t *exact = malloc(sizeof space);
-        j1850_count_answer r = longest(exact, 101);
+        j1850_count_answer r = longest(exact, J1850_FRAME_WORDS);
         printf("%u\n", (unsigned)exact[r.count]);
         free(exact);
     } else if (strcmp(name, "sanitized-shift") == 0) { /* the same: what the language does not define */
