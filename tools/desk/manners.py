@@ -1,4 +1,5 @@
-"""How the desk reads, writes and fails: input in pieces, input without an end, files that cannot be read, a closed pipe."""
+"""How the desk reads, writes and fails: input in pieces, input without an end, files that cannot be read, a closed pipe, output
+that cannot be written."""
 import os
 import random
 import signal
@@ -129,7 +130,15 @@ def see(desk, second, Different):
     said, status = onto_closed_pipe(desk, False)
     expect(not said and status == -signal.SIGPIPE, "a closed output pipe")
     said, status = onto_closed_pipe(desk, True)
-    expect(not said and status == 0, "a closed output pipe where SIGPIPE is ignored")
+    expect(said == b"standard output: Broken pipe\n" and status == 0, "a closed output pipe where SIGPIPE is ignored")
+    for shell, why in (
+        ('exec "$0" "$1" >&-', b"Bad file descriptor"),
+        ('exec "$0" "$1" >/dev/full', b"No space left on device"),
+        ('trap "" XFSZ && ulimit -f 0 && exec "$0" "$1" >"$2"', b"File too large"),
+    ):
+        with tempfile.NamedTemporaryFile() as file:
+            ran = subprocess.run(["sh", "-c", shell, desk, cases.TRUCK, file.name], capture_output=True, timeout=SECONDS)
+        expect(ran.stderr == b"standard output: " + why + b"\n", f"output that cannot be written: {why.decode()}")
 
     ran = run("--help", stdin=subprocess.DEVNULL)
     told = [b"desk FILE", b"refused", b"frame", b"quiet", b"unfinished"] + [b"fault-%d " % n for n in range(11, 21)]

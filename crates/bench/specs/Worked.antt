@@ -1,11 +1,10 @@
 -- Definitions.
--- The rounds of document 01, "Worked on paper", computed from the definitions. Each kind of starred item is a test, so that
--- the items can stand on one list with those of the other rooms; the cases that are not starred stand after them.
+-- The rounds of document 01, "Worked on paper", that are not starred, computed from the definitions. The starred ones stand with
+-- the other starred items, in the room `worked`.
 use Prim.Native.Nat.{ℕ, _-_}
 use mathlib.Core.Path.{_≡_, refl}
-use mathlib.Core.Bool.{Bool, true, false, _&&_}
+use mathlib.Core.Bool.{Bool, true, false}
 use mathlib.Core.List.{List, [], _∷_, _++_, map}
-use lib.Dec.{eqb}
 use lib.ListN.{length, replicate}
 use Rattle.symbol.specs.declared.Clock.{Clock}
 use Rattle.symbol.specs.Classes.{classOf}
@@ -27,38 +26,6 @@ holds c m = record { clock = c; bytes = m ++ replicate (mostStored - length m) 0
 -- a clock of these widths
 abbrev pub clockOf : (short long sof : ℕ) → Clock
 clockOf short long sof = record { short = record { 0 = short }; long = record { 0 = long }; sof = record { 0 = sof } }
-
--- of two, the first has lost at bit k and the second is through
-abbrev firstLost : ℕ → List Fared → Bool
-firstLost k [] = false
-firstLost k (Idle ∷ fares) = false
-firstLost k (Through ∷ fares) = false
-firstLost k (Lost j ∷ []) = false
-firstLost k (Lost j ∷ Idle ∷ fares) = false
-firstLost k (Lost j ∷ Lost i ∷ fares) = false
-firstLost k (Lost j ∷ Through ∷ []) = eqb j k
-firstLost k (Lost j ∷ Through ∷ f ∷ fares) = false
-
--- In a round of the two, the first loses at bit k and the second gets through.
-unfoldable pub losesAt : Station → Station → ℕ → Bool
-losesAt a b k = firstLost k (roundOf (a ∷ b ∷ []) .fares)
-
--- A round of the two has so many words, and takes so much line time.
-unfoldable pub lasts : Station → Station → (words time : ℕ) → Bool
-lasts a b words time = eqb (length (roundOf (a ∷ b ∷ []) .words)) words && eqb (roundOf (a ∷ b ∷ []) .lineTime) time
-
--- "FF (clock 49, 112, 182) against FF FF (nominal): FF loses at bit 17. 27 words, line time 2,740."
-pub short-against-long : (losesAt (holds (clockOf 49 112 182) (0xFF ∷ [])) (holds nominalClock (0xFF ∷ 0xFF ∷ [])) 17
-    && lasts (holds (clockOf 49 112 182) (0xFF ∷ [])) (holds nominalClock (0xFF ∷ 0xFF ∷ [])) 27 2740) ≡ true
-unfolding losesAt lasts roundOf roundAmong play asked shortest longest onLine classOf pulsesOf sofsAsked sumOf bitsOf checkOf registerFrom stepOf
-short-against-long = refl
-
--- "00 against FF: FF loses at bit 1."
-pub ones-against-zeros : losesAt (holds nominalClock (0xFF ∷ [])) (holds nominalClock (0x00 ∷ [])) 1 ≡ true
-unfolding losesAt roundOf roundAmong play asked shortest longest onLine classOf pulsesOf sofsAsked sumOf bitsOf checkOf registerFrom stepOf
-ones-against-zeros = refl
-
--- ## Cases that are not starred
 
 -- which places a round lets through
 unfoldable pub goOut : List Station → List Bool

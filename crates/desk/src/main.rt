@@ -66,6 +66,14 @@ fn fill(fd: i32, buf: &mut [u8]) -> Filled
     Filled::Bytes(done)
 }
 
+// Writes a text on standard output. Where that fails or stops short it is told, with what the system said.
+fn put_out(text: &[u8]) {
+    let all = io::write_all(STDOUT_FILENO, text);
+    if !all {
+        os::fail(b"standard output");
+    }
+}
+
 // Writes the text of an input.
 fn answer(input: &[u8]) {
     let mut ws = words();
@@ -73,10 +81,10 @@ fn answer(input: &[u8]) {
     let answered = desk_report::desk(input, &mut ws, &mut out);
     match answered {
         Answered::Report { length } => {
-            io::write_all(STDOUT_FILENO, &out[..length]);
+            put_out(&out[..length]);
         }
         Answered::Refused { line: _, length } => {
-            io::write_all(STDOUT_FILENO, &out[..length]);
+            put_out(&out[..length]);
         }
         Answered::FewLent => {}
     }

@@ -204,9 +204,9 @@ written-again ws p lent f e =
     again ws (r .opening) f (r .opens .end) (good-at mostBytes (single ws) (r .opening) f (r .is-decided))
 
 -- The same through the writer's whole definition, refusals included: with 101 words lent it writes exactly those intervals.
-pub writes-again : (ws : List ℕ) (p lent : ℕ) (f : Good) (room : ℕ) → reading ws p lent ≡ good f → mostWords ≤ room
-    → writing nominalClock (withoutCheck (f .main)) (f .kind) (responseBare (f .kind) (f .response)) room ≡ words (nominalIntervals ws (f .opening) (f .next))
+pub writes-again : (ws : List ℕ) (p lent : ℕ) (f : Good) (wordsLent : ℕ) → reading ws p lent ≡ good f → mostWords ≤ wordsLent
+    → writing nominalClock (withoutCheck (f .main)) (f .kind) (responseBare (f .kind) (f .response)) wordsLent ≡ words (nominalIntervals ws (f .opening) (f .next))
 unfolding writing
-writes-again ws p lent f room e h =
+writes-again ws p lent f wordsLent e h =
     let a : WrittenAgain ws f = written-again ws p lent f e in
-    rw (nominal-good, a .is-admitted, le-ltb room mostWords h, a .same-words)
+    rw (nominal-good, a .is-admitted, le-ltb wordsLent mostWords h, a .same-words)

@@ -126,7 +126,7 @@ not-full : (limit : ℕ) (m r : List Bool) → length m + length r < 8 * limit �
 not-full limit m r h =
     ne-eqb (length (bytes m ++ bytes r)) limit (λ e. omega (arith, bytes-few m, bytes-few r, length-append (bytes m) (bytes r)))
 
--- A bit is at no fault where there is room for it: a byte has eight.
+-- A bit is at no fault where there is space for it: a byte has eight.
 bit-fine : (limit : ℕ) (st : Standing) (b : Bool) → inside st ≡ true → held (withBits st (b ∷ [])) ≤ 8 * limit → fault limit st (bit b) ≡ 0
 unfolding fault bytes
 bit-fine limit atSof b e h = never e refl

@@ -12,8 +12,8 @@ use Rattle.frame.specs.declared.Reading.{Reading}
 use Rattle.frame.specs.declared.Reading.the-variants.{Frame, Quiet, Unfinished, Faulty, PastRecording, FewLentBytes}
 use Rattle.frame.specs.ReadPromise.{Told, told, ReadPromise}
 
--- the fault of a number
-abbrev faultOf : ℕ → Fault
+-- the fault of a number; of a number that no fault has, any will do
+abbrev pub faultOf : ℕ → Fault
 faultOf n =
     cond (eqb n 11) Noise
     (cond (eqb n 12) NoSof

@@ -50,25 +50,25 @@ bytes-more bits b = go (one-more bits b)
     go (isWhole n s e f) = rw e (omega (arith, length-append (bytes bits) (n ∷ [])))
 
 -- A bit that is at no fault finds space for its byte.
-room : (limit : ℕ) (st : Standing) (b : Bool) → facts st .sofPlace ≡ false → facts st .inPart ≡ true → fault limit st (bit b) ≡ 0
+space : (limit : ℕ) (st : Standing) (b : Bool) → facts st .sofPlace ≡ false → facts st .inPart ≡ true → fault limit st (bit b) ≡ 0
     → ¬ (length (mainBytes st ++ responseBytes st) ≡ limit)
 unfolding fault
-room limit st b p q f = eqb-false (length (mainBytes st ++ responseBytes st)) limit (go (eqb (length (mainBytes st ++ responseBytes st)) limit) refl)
+space limit st b p q f = eqb-false (length (mainBytes st ++ responseBytes st)) limit (go (eqb (length (mainBytes st ++ responseBytes st)) limit) refl)
   where
     go : (t : Bool) → eqb (length (mainBytes st ++ responseBytes st)) limit ≡ t → t ≡ false
     go true e = let z : _≡_ {A = ℕ} 20 0 = rw (p, q, e) at f in absurd (omega arith)
     go false e = refl
 
-response-room : (limit : ℕ) (k : Kind) (m r : List Bool) (b : Bool) → fault limit (inResponse k m r) (bit b) ≡ 0 → ¬ (length (bytes m ++ bytes r) ≡ limit)
-response-room limit plain m r b f = room limit (inResponse plain m r) b refl refl f
-response-room limit checked m r b f = room limit (inResponse checked m r) b refl refl f
+response-space : (limit : ℕ) (k : Kind) (m r : List Bool) (b : Bool) → fault limit (inResponse k m r) (bit b) ≡ 0 → ¬ (length (bytes m ++ bytes r) ≡ limit)
+response-space limit plain m r b f = space limit (inResponse plain m r) b refl refl f
+response-space limit checked m r b f = space limit (inResponse checked m r) b refl refl f
 
 -- a bit goes into the part that it stands in, or says of which kind the response is
 bit-step : (limit : ℕ) (active : Bool) (st : Standing) (b : Bool) → Sound limit active st → fault limit st (bit b) ≡ 0 → Step limit active st (bitSymbol b)
 unfolding fault bytes
 bit-step limit active atSof b h f = absurd (omega (arith, f))
 bit-step limit active (inMain m) b h f =
-    let full : ¬ (length (bytes m ++ bytes []) ≡ limit) = room limit (inMain m) b refl refl f in
+    let full : ¬ (length (bytes m ++ bytes []) ≡ limit) = space limit (inMain m) b refl refl f in
     record {
       spells = rw (bit-shown b) (ap (λ (l : List Symbol). Sof ∷ l) (bits-snoc m b));
       sound = rw (bit-shown b) (omega (arith, bytes-more m b, length-append (bytes m) (bytes [])));
@@ -78,7 +78,7 @@ bit-step limit active (atNormalization m) true h f =
 bit-step limit active (atNormalization m) false h f =
     record { spells = ap (λ (l : List Symbol). Sof ∷ l) (sym (append-assoc (bitSymbols m) (Eod ∷ []) (Bit0 ∷ []))); sound = (h .1 .0, (h .1 .1 .0, omega (arith, h .1 .1 .1))) }
 bit-step limit active (inResponse k m r) b h f =
-    let full : ¬ (length (bytes m ++ bytes r) ≡ limit) = response-room limit k m r b f in
+    let full : ¬ (length (bytes m ++ bytes r) ≡ limit) = response-space limit k m r b f in
     record {
       spells =
           rw (bit-shown b, bits-snoc r b)

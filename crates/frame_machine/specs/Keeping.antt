@@ -37,18 +37,18 @@ pub record Closing (limit : ℕ) (l : Line) (o k : ℕ) (m : Machine) (kept : Li
 -- At the SOF's place there is nothing yet, whatever the kept bytes hold.
 pub keeping-first : (limit : ℕ) (l : Line) (o : ℕ) (m : Machine) (kept : List ℕ) → m ≡ fresh → limit ≤ length kept → Keeping limit l o (o + 1) m kept
 keeping-first limit l o m kept e h =
-    record { follows = at-first limit l o m e; keeps = rw (stands-sof l o) (record { room = h; first = rw bytes-none }) }
+    record { follows = at-first limit l o m e; keeps = rw (stands-sof l o) (record { space = h; first = rw bytes-none }) }
 
 keeps-same : (limit : ℕ) (st st′ : Standing) (kept : List ℕ) → soFar st′ ≡ soFar st → Kept limit st kept → Kept limit st′ kept
-keeps-same limit st st′ kept e h = record { room = h .room; first = rw e (h .first) }
+keeps-same limit st st′ kept e h = record { space = h .space; first = rw e (h .first) }
 
 keeps-more : (limit : ℕ) (st st′ : Standing) (kept : List ℕ) (b : ℕ) → length (soFar st) < limit → soFar st′ ≡ soFar st ++ (b ∷ [])
     → Kept limit st kept → Kept limit st′ (set kept (length (soFar st)) b)
 keeps-more limit st st′ kept b few e h =
-    let fits : length (soFar st) < length kept = omega (arith, few, h .room) in
+    let fits : length (soFar st) < length kept = omega (arith, few, h .space) in
     let longer : length (soFar st ++ (b ∷ [])) ≡ suc (length (soFar st)) = simp length-append (omega arith) in
     record {
-      room = rw (length-set kept (length (soFar st)) b) (h .room);
+      space = rw (length-set kept (length (soFar st)) b) (h .space);
       first = rw (e, longer, take-suc-set kept (length (soFar st)) b fits) (rw (h .first));
     }
 

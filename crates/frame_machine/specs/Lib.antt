@@ -11,6 +11,6 @@ pub mod CloseDoes
 pub mod StepDoes
 pub mod Following
 pub mod Keeping
-pub mod Room
+pub mod Space
 -- Machinery.
 pub mod Steps

@@ -9,9 +9,9 @@ use Rattle.frame.specs.Standing.{Standing, stands}
 use Rattle.frame_machine.specs.declared.Machine.{Machine}
 use Rattle.frame_machine.specs.Holding.{soFar, Before}
 
--- The kept bytes have room for a frame, and the bytes so far stand first in them.
+-- The kept bytes have space for a frame, and the bytes so far stand first in them.
 pub record Kept (limit : ℕ) (st : Standing) (kept : List ℕ) : Type 0 where
-  pub room : limit ≤ length kept
+  pub space : limit ≤ length kept
   pub first : take (length (soFar st)) kept ≡ soFar st
 
 -- before the interval at k the machine holds what stands before it, and the bytes so far are kept

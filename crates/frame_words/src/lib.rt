@@ -29,32 +29,32 @@ pub fn bad_message(main: &[u8], kind: Response, response: &[u8]) -> bool
     if MOST_BYTES <= m {
         return true;
     }
-    let room = MOST_BYTES - 1 - m;
+    let space = MOST_BYTES - 1 - m;
     match kind {
         Response::Without => false,
-        Response::Plain => bad_response(r, room),
-        Response::Checked => bad_checked(r, room),
+        Response::Plain => bad_response(r, space),
+        Response::Checked => bad_checked(r, space),
     }
 }
 
 // Whether a response of so many bytes is empty, or too long for the space that the main part leaves.
-fn bad_response(response: usize, room: usize) -> bool
-    ensures { λ r. ⌜ r ≡ eqb response 0 || ltb room response ⌝ }
+fn bad_response(response: usize, space: usize) -> bool
+    ensures { λ r. ⌜ r ≡ eqb response 0 || ltb space response ⌝ }
 {
     if response == 0 {
         return true;
     }
-    room < response
+    space < response
 }
 
 // The same for a response with a check byte of its own.
-fn bad_checked(response: usize, room: usize) -> bool
-    ensures { λ r. ⌜ r ≡ eqb response 0 || leb room response ⌝ }
+fn bad_checked(response: usize, space: usize) -> bool
+    ensures { λ r. ⌜ r ≡ eqb response 0 || leb space response ⌝ }
 {
     if response == 0 {
         return true;
     }
-    room <= response
+    space <= response
 }
 
 // Whether so many lent words are too few for some frame.

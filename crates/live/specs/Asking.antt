@@ -62,7 +62,7 @@ module _ (l : Line) (xs : List Outcome) (v : Live) (h : Hears l xs v) where
   asks-by : Rest l (v .places) (v .inside)
       → (askedTold (askedOf v) ≡ tells (readOn mostBytes l (v .places .from) mostBytes)) × (goesOn (readOn mostBytes l (v .places .from) mostBytes) ≡ false)
   unfolding askedOf
-  asks-by (seeks kept is has-room none) =
+  asks-by (seeks kept is has-space none) =
       both (quiet (v .places .from)) refl (read-by ∙ rw none) (rw (no-phase kept is))
   asks-by (hears m kept is opens none stood) =
       let from-sof : v .places .opening + 1 ≤ l .count = omega (arith, stood .follows .opened) in

@@ -26,7 +26,7 @@ use Rattle.live_taken.specs.Taken.{waiting, fedBy, stepAt, endsAt, laidBy}
 use Rattle.live.specs.Feeding.{refusedBy, takenOf, fedOf, lentOf}
 use Rattle.live_held.specs.Held.{lastPlace, noFrame}
 use Rattle.live.specs.Promise.{toldBy, refusal, hearRules, pastLast, saysFull}
-use Rattle.live.specs.Hearing.{Counts, room, all-heard, Hears}
+use Rattle.live.specs.Hearing.{Counts, place-left, all-heard, Hears}
 
 -- A refusal is told by its number, and by nothing else.
 pub refusal-51 : (h : Heard) → refusal h ≡ 51 → toldBy h ≡ bare 51 0 0 ∷ []
@@ -85,7 +85,7 @@ refused-leaves v w lent h = go (eqb (v .places .full) 0) (ltb (length lent) most
 -- For a reader that was started and has heard intervals: it says that there is no place more where the last has been heard.
 module _ (l : Line) (xs : List Outcome) (v : Live) (h : Hears l xs v) (w : ℕ) (lent : List ℕ) where
   full-past : Counts (l .count) (v .places) → saysFull v .says ≡ pastLast (l .count) .says
-  full-past (room f n k) = rw (f, le-ltb lastPlace (l .count) k)
+  full-past (place-left f n k) = rw (f, le-ltb lastPlace (l .count) k)
   full-past (all-heard f n) = rw (f, lt-ltb lastPlace (l .count) (omega (arith, n)))
 
   by-rules : refusal (fedOf v w (length lent) .heard) ≡ firstRule (hearRules (pastLast (l .count)) (length lent))

@@ -27,7 +27,7 @@ use Rattle.live_held.specs.declared.Live.{Live}
 use Rattle.live_taken.specs.Taken.{endsAt, waiting}
 use Rattle.live.specs.Feeding.{started, takenOf, fedOf, lentOf}
 use Rattle.live_held.specs.Held.{lastPlace, noFrame, phaseNumber, insideOf, outside}
-use Rattle.live.specs.Hearing.{Counts, room, all-heard, Rest, seeks, hears, Hears, Takes, decides-nothing}
+use Rattle.live.specs.Hearing.{Counts, place-left, all-heard, Rest, seeks, hears, Hears, Takes, decides-nothing}
 use Rattle.live.specs.Opening.{begins-hears}
 use Rattle.live.specs.Taking.{reached-in, reached-on, none-still, takes-next}
 use Rattle.live.specs.Shown.{on}
@@ -36,7 +36,7 @@ use Rattle.live.specs.Shown.{on}
 pub starts : Hears (single []) [] started
 unfolding started
 starts =
-    record { reached = none-yet; counts = room refl refl (omega arith); rest = seeks (replicate mostBytes 0) refl (omega arith) (opening-is (single []) 0 ∙ first-empty (endAt (single [])) 0 0 (omega arith)) }
+    record { reached = none-yet; counts = place-left refl refl (omega arith); rest = seeks (replicate mostBytes 0) refl (omega arith) (opening-is (single []) 0 ∙ first-empty (endAt (single [])) 0 0 (omega arith)) }
 
 -- ## The next interval
 
@@ -86,9 +86,9 @@ module _ (ws : List ℕ) (xs : List Outcome) (v : Live) (h : Hears (single ws) x
   -- An interval before a frame decides nothing, and opens one where it is an end.
   pub waits : (entry : List ℕ) → v .places .next ≡ length ws → length ws ≤ lastPlace → (kept : List ℕ) → v .inside ≡ outside kept → mostBytes ≤ length kept
       → opening (single ws) (v .places .from) ≡ nowhere → Takes (single ws) (single (on ws w)) xs entry entry (waiting v w)
-  waits entry at-k fits kept is has-room none =
+  waits entry at-k fits kept is has-space none =
       decides-nothing refl refl
-      (begins-hears (single (on ws w)) (length ws) (long ws w) v at-k (rw (kept-outside kept is) has-room) xs (v .places .from) fits (reached-in (single ws) (h .reached))
+      (begins-hears (single (on ws w)) (length ws) (long ws w) v at-k (rw (kept-outside kept is) has-space) xs (v .places .from) fits (reached-in (single ws) (h .reached))
       (none-still (single ws) (single (on ws w)) (long ws w) (same ws w) (v .places .from) none)
       (endsAt v w) (end-here ws w (v .places .next) at-k) (reached-on (single ws) (single (on ws w)) (long ws w) (same ws w) (h .reached)))
 
@@ -96,9 +96,9 @@ module _ (ws : List ℕ) (xs : List Outcome) (v : Live) (h : Hears (single ws) x
   taken : (entry : List ℕ) → v .places .full ≡ 0 → v .places .next ≡ length ws → length ws ≤ lastPlace → mostBytes ≤ length entry
       → Rest (single ws) (v .places) (v .inside) → Takes (single ws) (single (on ws w)) xs entry (lentOf v w entry) (fedOf v w (length entry))
   unfolding fedOf lentOf takenOf
-  taken entry none-full at-k fits enough (seeks kept is has-room none) =
+  taken entry none-full at-k fits enough (seeks kept is has-space none) =
       rw (eq-eqb (v .places .full) 0 none-full, le-ltb (length entry) mostBytes enough, out-of-frame kept is)
-      (waits entry at-k fits kept is has-room none)
+      (waits entry at-k fits kept is has-space none)
   taken entry none-full at-k fits enough (hears m kept is opens none stood) =
       rw (eq-eqb (v .places .full) 0 none-full, le-ltb (length entry) mostBytes enough, in-frame m kept is)
       (takes-next (single ws) (single (on ws w)) (long ws w) (same ws w) v xs (h .reached) at-k fits m kept is opens none stood w
@@ -110,5 +110,5 @@ module _ (ws : List ℕ) (xs : List Outcome) (v : Live) (h : Hears (single ws) x
   takes-it fits entry enough = go (h .counts)
     where
       go : Counts (length ws) (v .places) → Takes (single ws) (single (on ws w)) xs entry (lentOf v w entry) (fedOf v w (length entry))
-      go (room f n x) = taken entry f n fits enough (h .rest)
+      go (place-left f n x) = taken entry f n fits enough (h .rest)
       go (all-heard f n) = absurd (omega (arith, n, fits))

@@ -29,7 +29,7 @@ ToldSoFar l p xs = Reaches (onLine mostBytes l mostBytes) 0 p xs
 
 -- n intervals have been heard: the next one's place is n, or there is no place more
 pub data Counts (n : ℕ) (p : Places) : Type 0 where
-  room : p .full ≡ 0 → p .next ≡ n → n ≤ lastPlace → Counts n p
+  place-left : p .full ≡ 0 → p .next ≡ n → n ≤ lastPlace → Counts n p
   all-heard : p .full ≡ allHeard → n ≡ lastPlace + 1 → Counts n p
 
 -- From the position at which reading goes on there is no opening yet; or there is one, no interval after it decides its

@@ -17,11 +17,11 @@ use Rattle.frame.specs.ReadingOn.{ReadsOn}
 use Rattle.live_held.specs.declared.Live.{Live}
 use Rattle.live.specs.Feeding.{started, fedOf}
 use Rattle.live_held.specs.Held.{lastPlace}
-use Rattle.live.specs.Hearing.{Counts, room, all-heard, Hears, Takes, decides-nothing, decides-one}
+use Rattle.live.specs.Hearing.{Counts, place-left, all-heard, Hears, Takes, decides-nothing, decides-one}
 use Rattle.live.specs.Heard.{starts, takes-it}
 use Rattle.live.specs.ExactlyWhen.{refused-as, refused-leaves, hear-exactly}
 use Rattle.live.specs.Promise.{refusal, hearRules, saysFull}
-use Rattle.live.specs.Shown.{Delivered, recording, Enough, none, also, afterOne, afterAll, showsAll, reads, showsAsked, LiveCall, hearing, asking, afterCalls, isTaken, takenIn}
+use Rattle.live.specs.Shown.{Delivered, recording, Enough, none, also, Shown, afterOne, afterAll, showsOne, showsAll, showsCalls, reads, showsAsked, LiveCall, hearing, asking, afterCalls, isTaken, takenIn}
 use Rattle.live.specs.Whole.{live-whole}
 
 -- An interval that is not refused had bytes enough.
@@ -57,14 +57,14 @@ few-taken : (cs : List LiveCall) (done : List ℕ) (xs : List Outcome) (v : Live
 few-taken [] done xs v h = go (h .counts)
   where
     go : Counts (length done) (v .places) → length done + 0 ≤ lastPlace + 1
-    go (room f n k) = omega (arith, k)
+    go (place-left f n k) = omega (arith, k)
     go (all-heard f n) = omega (arith, n)
 few-taken (asking ∷ cs) done xs v h = few-taken cs done xs v h
 few-taken (hearing i ∷ cs) done xs v h =
     go (isTaken v i) refl (few-taken cs done xs v h) (λ ys k. few-taken cs (done ++ (i .width ∷ [])) ys (afterOne v i) k)
   where
     has-place : isTaken v i ≡ true → Counts (length done) (v .places) → length done ≤ lastPlace
-    has-place e (room f n k) = k
+    has-place e (place-left f n k) = k
     has-place e (all-heard f n) =
         let z : _≡_ {A = ℕ} 51 0 = sym (hear-exactly (single done) xs v h (i .width) (i .lent) 51 (omega arith) .exactly .1 (omega (arith, n))) ∙ eqb-true (refusal (fedOf v (i .width) (length (i .lent)) .heard)) 0 e in
         absurd (omega (arith, z))
@@ -81,10 +81,22 @@ few-taken (hearing i ∷ cs) done xs v h =
     go true e l on = one-more (takes-it done xs v h (i .width) (has-place e (h .counts)) (i .lent) (taken-enough v i e)) on
     go false e l on = l
 
--- Whatever calls are made on a started reader: the intervals that were not refused show, and asking then shows, what reading
--- them as one recording shows.
+-- What the calls of a history show is what the intervals that were not refused show by themselves.
+pub shows-calls : (cs : List LiveCall) (v : Live) → showsCalls v cs ≡ showsAll v (takenIn v cs)
+shows-calls [] v = refl
+shows-calls (asking ∷ cs) v = shows-calls cs v
+shows-calls (hearing i ∷ cs) v = go (isTaken v i) refl (shows-calls cs (afterOne v i)) (shows-calls cs v)
+  where
+    go : (b : Bool) → isTaken v i ≡ b → showsCalls (afterOne v i) cs ≡ showsAll (afterOne v i) (takenIn (afterOne v i) cs) → showsCalls v cs ≡ showsAll v (takenIn v cs)
+        → cond b (showsOne v i) [] ++ showsCalls (afterOne v i) cs ≡ showsAll v (cond b (i ∷ takenIn (afterOne v i) cs) (takenIn v cs))
+    go true e k l = ap (λ (x : List Shown). showsOne v i ++ x) k
+    go false e k l = ap (λ (u : Live). showsCalls u cs) (refused-leaves v (i .width) (i .lent) e .0) ∙ l
+
+-- Whatever calls are made on a started reader: what they themselves show, refused ones and questions aside, and what asking then
+-- shows, is what reading the intervals that were not refused as one recording shows.
 pub calls-whole : (cs : List LiveCall) (zs : List Outcome) → ReadsOn (recording (takenIn started cs)) mostBytes 0 zs
-    → showsAll started (takenIn started cs) ++ (showsAsked (afterCalls started cs) ∷ []) ≡ map reads zs
+    → showsCalls started cs ++ (showsAsked (afterCalls started cs) ∷ []) ≡ map reads zs
 calls-whole cs zs r =
-    ap (λ (u : Live). showsAll started (takenIn started cs) ++ (showsAsked u ∷ [])) (after-calls cs started)
+    ap (λ (x : List Shown). x ++ (showsAsked (afterCalls started cs) ∷ [])) (shows-calls cs started)
+    ∙ ap (λ (u : Live). showsAll started (takenIn started cs) ++ (showsAsked u ∷ [])) (after-calls cs started)
     ∙ live-whole (takenIn started cs) (all-enough cs started) (omega (arith, few-taken cs [] [] started starts)) zs r

@@ -3,6 +3,7 @@ pub mod Promise
 pub mod Hearing
 pub mod Shown
 -- Laws.
+pub mod Settled
 pub mod Opening
 pub mod Taking
 pub mod Heard

@@ -21,7 +21,7 @@ use Rattle.live_held.specs.declared.Places.{Places}
 use Rattle.live_held.specs.declared.Live.{Live}
 use Rattle.live_held.specs.Reader.{beginsAnew}
 use Rattle.live_held.specs.Held.{lastPlace, after}
-use Rattle.live.specs.Hearing.{ToldSoFar, Counts, room, all-heard, Rest, seeks, hears, Hears}
+use Rattle.live.specs.Hearing.{ToldSoFar, Counts, place-left, all-heard, Rest, seeks, hears, Hears}
 
 -- ## The places
 
@@ -34,13 +34,13 @@ counts-on n p from opening e h = go (eq-or-lt-of-le h)
     go (inl l) = all-heard (rw (eq-eqb (p .next) lastPlace (e ∙ l))) (ap (λ (x : ℕ). x + 1) l)
     go (inr l) =
         let ne : eqb (p .next) lastPlace ≡ false = ne-eqb (p .next) lastPlace (λ x. omega (arith, e)) in
-        room (rw ne) (rw (ne, e)) (omega arith)
+        place-left (rw ne) (rw (ne, e)) (omega arith)
 
 -- ## A frame begins
 
 -- After an interval at k that no frame goes on with: where it is an end it opens a frame, and nothing of it is heard yet;
 -- otherwise there is no opening yet.
-module _ (l : Line) (k : ℕ) (long : l .count ≡ k + 1) (v : Live) (at-k : v .places .next ≡ k) (has-room : mostBytes ≤ length (v .inside .kept)) where
+module _ (l : Line) (k : ℕ) (long : l .count ≡ k + 1) (v : Live) (at-k : v .places .next ≡ k) (has-space : mostBytes ≤ length (v .inside .kept)) where
   pub begins : (from : ℕ) → from ≤ k → firstIn (endAt l) from k ≡ nowhere → (b : Bool) → endAt l k ≡ b
       → Rest l (beginsAnew v from b .places) (beginsAnew v from b .inside)
   unfolding beginsAnew after
@@ -48,9 +48,9 @@ module _ (l : Line) (k : ℕ) (long : l .count ≡ k + 1) (v : Live) (at-k : v .
       let opens : opening l from ≡ at (v .places .next) = opening-is l from ∙ rw (long, first-next (endAt l) from k h, none, e, at-k) in
       hears fresh (v .inside .kept) refl opens
       (first-empty (decides mostBytes l (v .places .next)) (v .places .next + 1) (l .count) (omega (arith, long, at-k)))
-      (subst (λ (x : ℕ). Keeping mostBytes l (v .places .next) x fresh (v .inside .kept)) (ap (λ (x : ℕ). x + 1) at-k ∙ sym long) (keeping-first mostBytes l (v .places .next) fresh (v .inside .kept) refl has-room))
+      (subst (λ (x : ℕ). Keeping mostBytes l (v .places .next) x fresh (v .inside .kept)) (ap (λ (x : ℕ). x + 1) at-k ∙ sym long) (keeping-first mostBytes l (v .places .next) fresh (v .inside .kept) refl has-space))
   begins from h none false e =
-      seeks (v .inside .kept) refl has-room (opening-is l from ∙ rw (long, first-next (endAt l) from k h, none, e))
+      seeks (v .inside .kept) refl has-space (opening-is l from ∙ rw (long, first-next (endAt l) from k h, none, e))
 
   -- A reader that then goes on from there has heard all of it.
   pub begins-hears : (xs : List Outcome) (from : ℕ) → k ≤ lastPlace → from ≤ k → firstIn (endAt l) from k ≡ nowhere → (b : Bool) → endAt l k ≡ b

@@ -117,3 +117,9 @@ abbrev pub takenIn : Live → List LiveCall → List Delivered
 takenIn v [] = []
 takenIn v (asking ∷ cs) = takenIn v cs
 takenIn v (hearing i ∷ cs) = cond (isTaken v i) (i ∷ takenIn (afterOne v i) cs) (takenIn v cs)
+
+-- what the calls of a history show as they come; an interval that is refused tells nothing of the line
+abbrev pub showsCalls : Live → List LiveCall → List Shown
+showsCalls v [] = []
+showsCalls v (asking ∷ cs) = showsCalls v cs
+showsCalls v (hearing i ∷ cs) = cond (isTaken v i) (showsOne v i) [] ++ showsCalls (afterOne v i) cs

@@ -132,7 +132,7 @@ module _ (l l' : Line) (long : l' .count ≡ l .count + 1) (same : (j : ℕ) →
   ends-with : (x : Outcome) → goesOn x ≡ true → nextOf x ≡ k → readOn mostBytes l' (v .places .from) mostBytes ≡ x → (b : Bool) → endAt l' k ≡ b
       → Hears l' (xs ++ (x ∷ [])) (beginsAnew v (v .places .next) b)
   ends-with x g n r b e =
-      begins-hears l' k (long) v at-k (rw kept-is (before .keeps .room)) (xs ++ (x ∷ [])) (v .places .next) fits (omega (arith, at-k))
+      begins-hears l' k (long) v at-k (rw kept-is (before .keeps .space)) (xs ++ (x ∷ [])) (v .places .next) fits (omega (arith, at-k))
       (first-empty (endAt l') (v .places .next) k (omega (arith, at-k))) b e
       (subst (λ (p : ℕ). ToldSoFar l' p (xs ++ (x ∷ []))) (n ∙ sym at-k) (subst (λ (y : Outcome). ToldSoFar l' (nextOf y) (xs ++ (y ∷ []))) r (one-more (reached-on l l' long same was) (rw r g))))
 

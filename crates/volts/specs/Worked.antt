@@ -1,12 +1,11 @@
 -- Definitions.
--- Cases worked from the definitions: the starred trace of document 01, "Worked on paper", and the edges of the rules, points
--- that document 01 settles in a word or leaves to the reader, each as one small case. Nothing else rests on them; they show
--- that the definitions mean what one expects.
+-- The edges of the rules, worked from the definitions: points that document 01 settles in a word or leaves to the reader, each
+-- as one small case. Nothing else rests on them; they show that the definitions mean what one expects. The starred trace stands
+-- with the other starred items, in the room `worked`.
 use Prim.Native.Nat.{ℕ}
 use mathlib.Core.Path.{_≡_, refl}
-use mathlib.Core.Bool.{Bool, true, false, _&&_}
-use mathlib.Core.List.{List, [], _∷_}
-use lib.Dec.{eqb}
+use mathlib.Core.Bool.{Bool, true, false}
+use mathlib.Core.List.{[], _∷_}
 use lib.Count.{trailingZeros}
 use lib.Ieee.{Float, nan, inf, fin, binary32, ofInt, sub, add, neg, sum, round, size, units, odd, span, climb, lt, le, eq}
 use lib.IntN.{pos, negsuc}
@@ -17,8 +16,6 @@ use Rattle.volts.specs.Promise.{wrote, turnedAway, sampleUnusable, outco
 use Rattle.volts.specs.declared.Gate.{Gate}
 use Rattle.volts.specs.declared.Judged.the-variants.{Active, Passive, Between, Unusable}
 
--- ## The starred trace
-
 -- a whole number of volts, as an f32
 abbrev pub volts : ℕ → Float
 volts n = ofInt binary32 (pos n)
@@ -26,42 +23,6 @@ volts n = ofInt binary32 (pos n)
 -- "The usual gate is 0, 6.25, 1.5": 6.25 is 25 quarters, 1.5 is 3 halves
 abbrev pub usualGate : Gate
 usualGate = record { offset = volts 0; active = fin false 25 (negsuc 1); passive = fin false 3 (negsuc 0) }
-
--- "samples 0, 7, 3, 3, 1"
-abbrev pub starredSamples : List Float
-starredSamples = volts 0 ∷ volts 7 ∷ volts 3 ∷ volts 3 ∷ volts 1 ∷ []
-
--- "intervals 1, 3, 1"
-abbrev pub starredIntervals : List ℕ
-starredIntervals = 1 ∷ 3 ∷ 1 ∷ []
-
--- two lists of widths are the same
-abbrev pub sameWidths : List ℕ → List ℕ → Bool
-sameWidths [] [] = true
-sameWidths [] (w ∷ ws) = false
-sameWidths (v ∷ vs) [] = false
-sameWidths (v ∷ vs) (w ∷ ws) = eqb v w && sameWidths vs ws
-
--- The samples have these intervals.
-pub starred-intervals : intervalsOf usualGate starredSamples ≡ starredIntervals
-unfolding judged against isFinite ofInt sub add neg sum round size units odd span climb lt le eq trailingZeros
-starred-intervals = refl
-
--- the item as a test, to stand on a list with the others
-unfoldable pub starredTrace : Bool
-starredTrace = sameWidths (intervalsOf usualGate starredSamples) starredIntervals
-
--- The test says true.
-pub starred-trace : starredTrace ≡ true
-unfolding starredTrace
-starred-trace = rw starred-intervals
-
--- six lent words, one more than the samples, are enough for it
-pub starred-outcome : outcome usualGate starredSamples (replicate 6 0) ≡ wrote 3
-unfolding outcome goodGate sampleUnusable judged against isFinite ofInt sub add neg sum round size units odd span climb lt le eq trailingZeros
-starred-outcome = refl
-
--- ## The edges
 
 -- the usual gate on a channel whose ground lies elsewhere
 abbrev pub shifted : Float → Gate
@@ -93,7 +54,7 @@ pub record Edges : Type 0 where
   pub infinity-unusable : judged usualGate (inf true) ≡ Unusable
   pub overflow-unusable : judged (shifted (largest true)) (largest false) ≡ Unusable
   -- "passive level is below active level": equal levels are no gate, and neither is a NaN
-  pub no-room : goodGate (between (volts 3) (volts 3)) ≡ false
+  pub equal-levels : goodGate (between (volts 3) (volts 3)) ≡ false
   pub no-number : goodGate (between (volts 3) nan) ≡ false
   -- "the first is passive and may be 0": a trace that begins active; one that begins between the levels is passive
   pub begins-active : intervalsOf usualGate (volts 7 ∷ []) ≡ 0 ∷ 1 ∷ []
@@ -101,6 +62,8 @@ pub record Edges : Type 0 where
   -- "under samples + 1": no samples ask for one lent word
   pub one-word : outcome usualGate [] (0 ∷ []) ≡ wrote 0
   pub no-word : outcome usualGate [] [] ≡ turnedAway 32
+  -- and five samples for six
+  pub six-words : outcome usualGate (volts 0 ∷ volts 7 ∷ volts 3 ∷ volts 3 ∷ volts 1 ∷ []) (replicate 6 0) ≡ wrote 3
 
 -- They are so.
 pub edges : Edges
@@ -113,10 +76,11 @@ edges = record {
   nan-unusable = refl;
   infinity-unusable = refl;
   overflow-unusable = refl;
-  no-room = refl;
+  equal-levels = refl;
   no-number = refl;
   begins-active = refl;
   begins-between = refl;
   one-word = refl;
   no-word = refl;
+  six-words = refl;
 }

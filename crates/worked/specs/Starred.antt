@@ -2,10 +2,10 @@
 -- The starred items of document 01, "Worked on paper", from the definitions alone: one statement over one list.
 use Prim.Native.Nat.{ℕ}
 use mathlib.Core.Path.{_≡_, refl}
-use mathlib.Core.Bool.{Bool, true, false, _&&_}
+use mathlib.Core.Bool.{Bool, true, false}
 use mathlib.Core.List.{List, [], _∷_}
 use lib.Count.{trailingZeros}
-use lib.Dec.{eqb}
+use lib.ListN.{length}
 use lib.Ieee.{Float, ofInt, sub, add, neg, sum, round, size, units, odd, span, climb, lt, le, eq}
 use Rattle.symbol.specs.declared.Symbol.{Symbol}
 use Rattle.symbol.specs.declared.Symbol.the-variants.{Noise, Bit0, Bit1, Eod, Eof}
@@ -15,13 +15,13 @@ use Rattle.checkbyte.specs.Register.{checkOf, registerFrom, stepOf}
 use Rattle.volts.specs.declared.Gate.{Gate}
 use Rattle.volts.specs.Judging.{judged, against, isFinite}
 use Rattle.volts.specs.Intervals.{intervalsOf}
-use Rattle.volts.specs.Worked.{usualGate, volts, sameWidths}
+use Rattle.volts.specs.Worked.{usualGate, volts}
 use Rattle.frame.specs.Bits.{bitsOf}
-use Rattle.frame.specs.Line.{is}
 use Rattle.bench.specs.declared.Station.{Station}
+use Rattle.bench.specs.declared.Fared.the-variants.{Through, Lost}
 use Rattle.bench.specs.Course.{asked, shortest, longest, onLine, play}
 use Rattle.bench.specs.Round.{pulsesOf, sofsAsked, sumOf, roundAmong, roundOf}
-use Rattle.bench.specs.Worked.{holds, clockOf, losesAt, lasts}
+use Rattle.bench.specs.Worked.{holds, clockOf}
 
 -- A starred item: what is given, and what document 01 says comes of it.
 pub data Item : Type 0 where
@@ -36,18 +36,18 @@ pub data Item : Type 0 where
   -- the words and the line time of a round of two stations
   roundLasts : Station → Station → (words time : ℕ) → Item
 
--- the item is as document 01 says
-unfoldable pub isSo : Item → Bool
-isSo (checkIs message check) = eqb (checkOf message) check
-isSo (symbolIs active width symbol) = is symbol (classOf active width)
-isSo (intervalsAre gate samples widths) = sameWidths (intervalsOf gate samples) widths
-isSo (lostAt a b bit) = losesAt a b bit
-isSo (roundLasts a b words time) = lasts a b words time
+-- what document 01 says of the item
+abbrev pub Says : Item → Type 0
+Says (checkIs message check) = checkOf message ≡ check
+Says (symbolIs active width symbol) = classOf active width ≡ symbol
+Says (intervalsAre gate samples widths) = intervalsOf gate samples ≡ widths
+Says (lostAt a b bit) = roundOf (a ∷ b ∷ []) .fares ≡ Lost bit ∷ Through ∷ []
+Says (roundLasts a b words time) = (length (roundOf (a ∷ b ∷ []) .words) ≡ words) × (roundOf (a ∷ b ∷ []) .lineTime ≡ time)
 
--- every item of a list is so
-unfoldable pub all : List Item → Bool
-all [] = true
-all (item ∷ items) = isSo item && all items
+-- it is so of every item of a list
+abbrev pub Each : List Item → Type 0
+Each [] = Unit {0}
+Each (item ∷ items) = Says item × Each items
 
 -- The stations of the starred rounds: FF at the quickest clock ..
 abbrev quick : Station
@@ -66,7 +66,7 @@ abbrev zeros : Station
 zeros = holds nominalClock (0x00 ∷ [])
 
 -- the starred items, in the order of document 01
-unfoldable pub items : List Item
+abbrev pub items : List Item
 items =
     checkIs (0x00 ∷ []) 0x3B ∷
     checkIs (0xFF ∷ []) 0xFF ∷
@@ -88,6 +88,6 @@ items =
     []
 
 -- Every starred item is so.
-pub starred : all items ≡ true
-unfolding all items isSo checkOf registerFrom stepOf classOf judged against isFinite ofInt sub add neg sum round size units odd span climb lt le eq trailingZeros losesAt lasts roundOf roundAmong play asked shortest longest onLine pulsesOf sofsAsked sumOf bitsOf
-starred = refl
+pub starred : Each items
+unfolding checkOf registerFrom stepOf classOf judged against isFinite ofInt sub add neg sum round size units odd span climb lt le eq trailingZeros roundOf roundAmong play asked shortest longest onLine pulsesOf sofsAsked sumOf bitsOf
+starred = (refl, (refl, (refl, (refl, (refl, (refl, (refl, (refl, (refl, (refl, (refl, (refl, (refl, (refl, (refl, ((refl, refl), (refl, tt)))))))))))))))))

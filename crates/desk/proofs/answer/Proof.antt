@@ -28,11 +28,11 @@ enum-known-answered c = search needs
 array-share-prefix-out : tie.Need-array-share-prefix-out
 array-share-prefix-out c = omega (arith, report-fits (c .before .before .before .before .before .desk .ensures) (c .before .answered .given .1))
 
-slice-aggregate-write-all : tie.Need-slice-aggregate-write-all
-slice-aggregate-write-all c = sym (length-take-le _ _ (omega (arith, report-fits (c .before .before .before .before .before .before .desk .ensures) (c .before .before .answered .given .1))))
+slice-aggregate-put-out : tie.Need-slice-aggregate-put-out
+slice-aggregate-put-out c = sym (length-take-le _ _ (omega (arith, report-fits (c .before .before .before .before .before .before .desk .ensures) (c .before .before .answered .given .1))))
 
-write-all-requires : tie.Need-write-all-requires
-write-all-requires c κs = search needs
+put-out-requires : tie.Need-put-out-requires
+put-out-requires c κs = search needs
 
 enum-known-answered-2 : tie.Need-enum-known-answered-2
 enum-known-answered-2 c = search needs
@@ -40,11 +40,11 @@ enum-known-answered-2 c = search needs
 array-share-prefix-out-2 : tie.Need-array-share-prefix-out-2
 array-share-prefix-out-2 c = omega (arith, refusal-fits (c .before .before .before .before .before .desk .ensures) (c .before .answered2 .given .1))
 
-slice-aggregate-write-all-2 : tie.Need-slice-aggregate-write-all-2
-slice-aggregate-write-all-2 c = sym (length-take-le _ _ (omega (arith, refusal-fits (c .before .before .before .before .before .before .desk .ensures) (c .before .before .answered2 .given .1))))
+slice-aggregate-put-out-2 : tie.Need-slice-aggregate-put-out-2
+slice-aggregate-put-out-2 c = sym (length-take-le _ _ (omega (arith, refusal-fits (c .before .before .before .before .before .before .desk .ensures) (c .before .before .answered2 .given .1))))
 
-write-all-requires-2 : tie.Need-write-all-requires-2
-write-all-requires-2 c κs = search needs
+put-out-requires-2 : tie.Need-put-out-requires-2
+put-out-requires-2 c κs = search needs
 
 enum-told : tie.Need-enum-told
 enum-told c = search needs
@@ -69,12 +69,12 @@ answer-spec =
     desk-requires
     enum-known-answered
     array-share-prefix-out
-    slice-aggregate-write-all
-    write-all-requires
+    slice-aggregate-put-out
+    put-out-requires
     enum-known-answered-2
     array-share-prefix-out-2
-    slice-aggregate-write-all-2
-    write-all-requires-2
+    slice-aggregate-put-out-2
+    put-out-requires-2
     enum-told
     returns
     returns-2

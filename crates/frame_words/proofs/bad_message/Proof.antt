@@ -12,11 +12,11 @@ returns c = sym (bad-empty (now (c .before .before .before .args .main)) (now (c
 returns-2 : tie.Need-returns-2
 returns-2 c = sym (bad-long (now (c .before .before .before .before .args .main)) (now (c .before .before .before .before .args .response)) (c .before .before .before .before .args .kind) (search needs))
 
-sub-room : tie.Need-sub-room
-sub-room c = search needs
+sub-space : tie.Need-sub-space
+sub-space c = search needs
 
-sub-room-2 : tie.Need-sub-room-2
-sub-room-2 c = search needs
+sub-space-2 : tie.Need-sub-space-2
+sub-space-2 c = search needs
 
 enum-told : tie.Need-enum-told
 enum-told c = search needs
@@ -51,8 +51,8 @@ bad-message-spec =
     (tie.spec
     returns
     returns-2
-    sub-room
-    sub-room-2
+    sub-space
+    sub-space-2
     enum-told
     enum-told-2
     bad-response-requires

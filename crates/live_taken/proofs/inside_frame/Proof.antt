@@ -1,7 +1,7 @@
 -- `live_taken::inside_frame` meets its contract: each arm is the line of the definition for its event.
 use mathlib.Core.Path.{_∙_}
 use Rattle.live_taken.proofs.Events.{steps-by, fed-by, laid-by}
-use Rattle.frame_machine.specs.Room.{has-room}
+use Rattle.frame_machine.specs.Space.{has-space}
 use borrow.Author.Needs.{needs}
 use Rattle.live_taken.proofs.inside_frame.Statement.{statement}
 use Rattle.live_taken.proofs.inside_frame.Tie as tie
@@ -34,7 +34,7 @@ enum-known-event : tie.Need-enum-known-event
 enum-known-event c = search needs
 
 array-write-kept : tie.Need-array-write-kept
-array-write-kept c = has-room _ (c .before .before .before .before .before .before .before .held-by .result) (c .before .before .before .before .before .sign-of .result) _ _ (c .before .before .before .before .step .ensures) (c .before .event .given .1)
+array-write-kept c = has-space _ (c .before .before .before .before .before .before .before .held-by .result) (c .before .before .before .before .before .sign-of .result) _ _ (c .before .before .before .before .step .ensures) (c .before .event .given .1)
 
 going-requires-2 : tie.Need-going-requires-2
 going-requires-2 c κs = search needs

@@ -61,8 +61,8 @@ module _ (limit : ℕ) (m : Machine) (full : limit ≤ m .count) where
   of-sign (Wrong f) = refl
 
 -- A byte that the machine tells of is one that the frame may have.
-pub has-room : (limit : ℕ) (m : Machine) (s : Sign) (t : Stepped) (b : ℕ) → t ≡ stepOf limit m s → t .event ≡ Byte b → m .count < limit
-has-room limit m s t b e g = go (upTo limit (m .count))
+pub has-space : (limit : ℕ) (m : Machine) (s : Sign) (t : Stepped) (b : ℕ) → t ≡ stepOf limit m s → t .event ≡ Byte b → m .count < limit
+has-space limit m s t b e g = go (upTo limit (m .count))
   where
     go : (limit ≤ m .count) ⊎ (m .count < limit) → m .count < limit
     go (inl h) = let z : _≡_ {A = ℕ} 0 1 = cc (of-sign limit m h s) in absurd (omega arith)
