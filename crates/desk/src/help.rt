@@ -53,7 +53,7 @@ fn byte_faults() {
     say(b"  fault-16    a part ends inside a byte\n");
     say(b"  fault-17    a part has too few bytes\n");
     say(b"  fault-18    a check byte is wrong\n");
-    say(b"  fault-19    a second end of data, behind the response\n");
+    say(b"  fault-19    a second end of data, after the response\n");
     say(b"  fault-20    a thirteenth byte begins\n\n");
 }
 
