@@ -215,7 +215,8 @@ j1850_clock_answer j1850_good_clock(j1850_clock clock);
 /* The intervals of a trace, one sample a microsecond: passive, active, passive .. in microseconds; the first may be 0.
    Lend one word more than there are samples. Refusals, the first that applies: .._SAMPLES (33) more than 16,384
    samples; .._GATE (34) a gate that is not finite or whose passive level is not below its active one; .._LENT (32) too few
-   words; .._UNUSABLE (35) a sample, or a sample less the offset, that is not finite. */
+   words; .._UNUSABLE (35) a sample, or a sample less the offset, that is not finite. The answer is that of IEEE's default
+   arithmetic, whatever rounding or flushing to zero the thread is set to, and the thread's setting is left as it was. */
 j1850_count_answer j1850_intervals(j1850_gate gate, const float *samples, size_t samples_length, uint32_t *words,
                                    size_t words_length);
 

@@ -4,7 +4,7 @@ use Prim.Native.Nat.{ℕ, _≤_, _<_}
 use mathlib.Core.Path.{_≡_, refl}
 use mathlib.Core.Bool.{Bool, true, false, cond, not, _&&_}
 use mathlib.Core.List.{_++_}
-use mathlib.Core.Logic.{_↔_, inl, inr, ⊎-elim}
+use mathlib.Core.Logic.{_↔_, _⊎_, inl, inr, ⊎-elim}
 use native.Mathlib.Omega.{arith}
 use lib.Dec.{eqb}
 use lib.ListN.{length}
@@ -97,6 +97,12 @@ named-range n named = rw (← (named .number-is)) (go (named .fault-is))
     go WrongCheck = (omega arith, omega arith)
     go EodAfterResponse = (omega arith, omega arith)
     go ThirteenthByte = (omega arith, omega arith)
+
+-- So no other number is a fault's.
+pub other-number : (f : Fault) (n : ℕ) → (n ≤ 10) ⊎ (20 < n) → eqb (faultNumber f) n ≡ false
+other-number f n h =
+    let range = named-range (faultNumber f) (record { fault-is = f; number-is = refl }) in
+    ne-eqb (faultNumber f) n (λ e. ⊎-elim (λ low. omega (arith, range .0, e, low)) (λ high. omega (arith, range .1, e, high)) h)
 
 -- What a symbol shows as wrong by itself has a name ..
 pub wrong-named : (s : Symbol) → 0 < wrongOf (signOf s) → Named (wrongOf (signOf s))

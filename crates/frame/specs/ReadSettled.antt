@@ -4,13 +4,16 @@ use Prim.Native.Nat.{ℕ}
 use mathlib.Core.Path.{_≡_, refl, sym, ap, _∙_}
 use mathlib.Core.Bool.{cond}
 use mathlib.Core.List.{List}
+use mathlib.Core.Logic.{inl, inr}
+use native.Mathlib.Omega.{arith}
 use lib.Dec.{eqb}
 use Rattle.laws.specs.Settled.{settled}
 use Rattle.frame.specs.declared.Fault.{Fault}
 use Rattle.frame.specs.declared.Fault.the-variants.{Noise, NoSof, Break, Stuck, LateSof, SplitByte, FewBytes, WrongCheck, EodAfterResponse, ThirteenthByte}
 use Rattle.frame.specs.declared.Reading.{Reading}
 use Rattle.frame.specs.declared.Reading.the-variants.{Frame, Quiet, Unfinished, Faulty, PastRecording, FewLentBytes}
-use Rattle.frame.specs.ReadPromise.{Told, told, ReadPromise}
+use Rattle.frame.specs.ReadPromise.{faultNumber, Told, told, ReadPromise}
+use Rattle.frame.specs.FaultLaws.{other-number}
 
 -- the fault of a number; of a number that no fault has, any will do
 abbrev pub faultOf : ℕ → Fault
@@ -25,6 +28,19 @@ faultOf n =
     (cond (eqb n 18) WrongCheck
     (cond (eqb n 19) EodAfterResponse ThirteenthByte))))))))
 
+-- It is the fault whose number it is.
+pub fault-back : (f : Fault) → faultOf (faultNumber f) ≡ f
+fault-back Noise = refl
+fault-back NoSof = refl
+fault-back Break = refl
+fault-back Stuck = refl
+fault-back LateSof = refl
+fault-back SplitByte = refl
+fault-back FewBytes = refl
+fault-back WrongCheck = refl
+fault-back EodAfterResponse = refl
+fault-back ThirteenthByte = refl
+
 -- the answer back from what is told of it
 abbrev answerOf : Told → Reading
 answerOf t =
@@ -38,16 +54,15 @@ back : (r : Reading) → answerOf (told r) ≡ r
 back (Frame lengths response opening next) = refl
 back (Quiet next) = refl
 back (Unfinished opening) = refl
-back (Faulty Noise next) = refl
-back (Faulty NoSof next) = refl
-back (Faulty Break next) = refl
-back (Faulty Stuck next) = refl
-back (Faulty LateSof next) = refl
-back (Faulty SplitByte next) = refl
-back (Faulty FewBytes next) = refl
-back (Faulty WrongCheck next) = refl
-back (Faulty EodAfterResponse next) = refl
-back (Faulty ThirteenthByte next) = refl
+back (Faulty f next) =
+    rw (
+      other-number f 0 (inl (omega arith)),
+      other-number f 1 (inl (omega arith)),
+      other-number f 2 (inl (omega arith)),
+      other-number f 31 (inr (omega arith)),
+      other-number f 32 (inr (omega arith)),
+      fault-back f,
+    )
 back PastRecording = refl
 back FewLentBytes = refl
 

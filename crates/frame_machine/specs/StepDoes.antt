@@ -5,17 +5,18 @@ use mathlib.Core.Path.{_≡_, refl}
 use mathlib.Core.Bool.{true, false}
 use lib.ListN.{length}
 use lib.Dec.{eqb}
+use mathlib.Core.Logic.{inl}
 use native.Mathlib.Omega.{arith}
 use Rattle.checkbyte.specs.Register.{registerFrom}
 use Rattle.frame.specs.declared.Fault.{Fault}
-use Rattle.frame.specs.declared.Fault.the-variants.{Noise, NoSof, Break, Stuck, LateSof, SplitByte, FewBytes, WrongCheck, EodAfterResponse, ThirteenthByte}
+use Rattle.frame.specs.declared.Fault.the-variants.{LateSof}
 use Rattle.frame.specs.declared.Sign.{Sign}
 use Rattle.frame.specs.declared.Sign.the-variants.{Bit, Shut, Sof, Wrong}
 use Rattle.frame.specs.Signs.{wrong, sof}
 use Rattle.frame.specs.Standing.{plain, checked, Standing, atSof, inMain, atNormalization, inResponse}
 use Rattle.frame.specs.ReadPromise.{faultNumber}
 use Rattle.frame.specs.BitLaws.{bytes-none, left-over-none}
-use Rattle.frame.specs.FaultLaws.{sof-fault, wrong-fault, named-range}
+use Rattle.frame.specs.FaultLaws.{sof-fault, wrong-fault, named-range, other-number}
 use Rattle.frame_machine.specs.Steps.{faulty, sofOf, stepOf, fresh}
 use Rattle.frame_machine.specs.Meaning.{meaningOf}
 use Rattle.frame_machine.specs.Holding.{soFar, holding}
@@ -25,16 +26,7 @@ use Rattle.frame_machine.specs.CloseDoes.{eod-does, end-does}
 
 -- No fault has the number 0.
 pub some-fault : (f : Fault) → eqb (faultNumber f) 0 ≡ false
-some-fault Noise = refl
-some-fault NoSof = refl
-some-fault Break = refl
-some-fault Stuck = refl
-some-fault LateSof = refl
-some-fault SplitByte = refl
-some-fault FewBytes = refl
-some-fault WrongCheck = refl
-some-fault EodAfterResponse = refl
-some-fault ThirteenthByte = refl
+some-fault f = other-number f 0 (inl (omega arith))
 
 -- Its number is above 0.
 pub positive : (f : Fault) → 0 < faultNumber f

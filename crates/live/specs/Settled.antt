@@ -4,10 +4,12 @@
 use mathlib.Core.Path.{_≡_, refl, sym, ap, _∙_}
 use mathlib.Core.Bool.{cond}
 use mathlib.Core.List.{List, [], _∷_}
+use mathlib.Core.Logic.{inl, inr}
+use native.Mathlib.Omega.{arith}
 use lib.Dec.{eqb}
-use Rattle.frame.specs.declared.Fault.the-variants.{Noise, NoSof, Break, Stuck, LateSof, SplitByte, FewBytes, WrongCheck, EodAfterResponse, ThirteenthByte}
 use Rattle.frame.specs.ReadPromise.{Told}
-use Rattle.frame.specs.ReadSettled.{faultOf}
+use Rattle.frame.specs.ReadSettled.{faultOf, fault-back}
+use Rattle.frame.specs.FaultLaws.{other-number}
 use Rattle.live_answer.specs.declared.Heard.{Heard}
 use Rattle.live_answer.specs.declared.Heard.the-variants.{Nothing, Frame, Faulty, PastPlaces, FewLentBytes}
 use Rattle.live.specs.declared.Asked.{Asked}
@@ -27,16 +29,8 @@ heardOf (t ∷ ts) =
 back : (h : Heard) → heardOf (toldBy h) ≡ h
 back Nothing = refl
 back (Frame lengths response opening next) = refl
-back (Faulty Noise next) = refl
-back (Faulty NoSof next) = refl
-back (Faulty Break next) = refl
-back (Faulty Stuck next) = refl
-back (Faulty LateSof next) = refl
-back (Faulty SplitByte next) = refl
-back (Faulty FewBytes next) = refl
-back (Faulty WrongCheck next) = refl
-back (Faulty EodAfterResponse next) = refl
-back (Faulty ThirteenthByte next) = refl
+back (Faulty f next) =
+    rw (other-number f 0 (inl (omega arith)), other-number f 51 (inr (omega arith)), other-number f 32 (inr (omega arith)), fault-back f)
 back PastPlaces = refl
 back FewLentBytes = refl
 
