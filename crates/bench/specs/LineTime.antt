@@ -6,7 +6,7 @@ use mathlib.Core.Path.{_≡_, sym, ap, _∙_}
 use mathlib.Core.Bool.{true, false}
 use mathlib.Core.List.{List, [], _∷_}
 use native.Mathlib.Omega.{arith}
-use lib.ListN.{length, take, drop, length-append, length-drop}
+use lib.ListN.{length, take, drop, length-append}
 use lib.Seq.{take-append-seam}
 use Rattle.bench.specs.declared.Station.{Station}
 use Rattle.bench.specs.Round.{roundOf}
@@ -40,11 +40,3 @@ module _ (lent : List ℕ) (row : List Station) (t : taken (round lent) row ≡ 
   pub words-first : take (length (roundOf row .words)) (lentAfter row lent) ≡ roundOf row .words
   unfolding lentAfter
   words-first = rw t (take-append-seam (roundOf row .words) (drop (length (roundOf row .words)) lent))
-
-  -- As many words are lent afterwards as before.
-  pub lent-length : length (lentAfter row lent) ≡ length lent
-  unfolding lentAfter
-  lent-length =
-      let n = (round-taken lent row t) .words in
-      let ws = roundOf row .words in
-      rw t (omega (arith, length-append ws (drop (length ws) lent), length-drop (length ws) lent, on-the-line .few))

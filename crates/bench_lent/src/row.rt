@@ -22,7 +22,7 @@ pub fn gathered(row: &[Station]) -> HeldRow
         at[i] = station;
         i += 1;
     }
-    bench_row::bench_of(at, row.len())
+    bench_row::held_of(at, row.len())
 }
 
 // The row with the stations of a held row in its places.

@@ -42,7 +42,7 @@ pub fn kept(count: usize) -> usize
 }
 
 // The held row of these stations, for a row of so many.
-pub fn bench_of(at: [Station; MOST_STATIONS], count: usize) -> HeldRow
+pub fn held_of(at: [Station; MOST_STATIONS], count: usize) -> HeldRow
     ensures { λ r. ⌜ r ≡ record { at = at; count = count } ⌝ }
 {
     HeldRow { at, count }

@@ -20,11 +20,6 @@ use Rattle.frame.specs.Bits.{odd, bitsOf, bitsOfByte}
 use Rattle.frame.specs.Faults.{mostBytes}
 use Rattle.frame.specs.Writing.{bitWidths, byteWidths, responseSent, responseWidths, frameWords, emptyResponse, badMessage, mostWords}
 
--- The widths of a byte are eight, and the next byte starts passive again.
-pub byte-widths-cons : (c : Clock) (b : ℕ) (bs : List ℕ) → byteWidths c (b ∷ bs) ≡ bitWidths c false (bitsOfByte b) ++ byteWidths c bs
-unfolding bitWidths bitsOf
-byte-widths-cons c b bs = refl
-
 -- No bytes have no widths.
 pub byte-widths-none : (c : Clock) → byteWidths c [] ≡ []
 unfolding bitWidths bitsOf

@@ -73,10 +73,10 @@ use Rattle.bench_row.proofs.kept as kept
 use Rattle.bench_row.proofs.kept.Symbol as kept-def
 use Rattle.bench_row.proofs.kept.Symbol.{name as #kept}
 use Rattle.bench_row.proofs.kept.Met as kept-thm
-use Rattle.bench_row.proofs.bench_of as held-of
-use Rattle.bench_row.proofs.bench_of.Symbol as held-of-def
-use Rattle.bench_row.proofs.bench_of.Symbol.{name as #held-of}
-use Rattle.bench_row.proofs.bench_of.Met as held-of-thm
+use Rattle.bench_row.proofs.held_of as held-of
+use Rattle.bench_row.proofs.held_of.Symbol as held-of-def
+use Rattle.bench_row.proofs.held_of.Symbol.{name as #held-of}
+use Rattle.bench_row.proofs.held_of.Met as held-of-thm
 
 abbrev R : RattleType
 R = T.the-row
@@ -106,8 +106,8 @@ module _ {M : Type 1} (𝓤 : URA M) (H : Heap 𝓤) (A : Atoms 𝓤) (mem : Mem
   abbrev Kept : Contract 𝓤
   Kept = tripleOf 𝓤 H A kept.signature (kept.spec 𝓤 H A mem run)
 
-  abbrev BenchOf : Contract 𝓤
-  BenchOf = tripleOf 𝓤 H A held-of.signature (held-of.spec 𝓤 H A mem run)
+  abbrev HeldOf : Contract 𝓤
+  HeldOf = tripleOf 𝓤 H A held-of.signature (held-of.spec 𝓤 H A mem run)
 
   abbrev blanks-ens : List Station → SProp 𝓤
   blanks-ens = ensured 𝓤 H A blanks.ended (blanks.clauses 𝓤 H A mem run) tt tt tt
@@ -133,7 +133,7 @@ module _ {M : Type 1} (𝓤 : URA M) (H : Heap 𝓤) (A : Atoms 𝓤) (mem : Mem
   abbrev to-kept : ℕ → Kept .Ghost
   to-kept n = ((tt, tt, tt, (n, tt), (vint w64 n ∷ [], tt)), tt)
 
-  abbrev to-held : List Station → ℕ → BenchOf .Ghost
+  abbrev to-held : List Station → ℕ → HeldOf .Ghost
   to-held l n = ((tt, tt, tt, (l, (n, tt)), (av l ∷ [], (vint w64 n ∷ [], tt))), tt)
 
   module _ (W : Given 𝓤 H A) where
@@ -143,7 +143,7 @@ module _ {M : Type 1} (𝓤 : URA M) (H : Heap 𝓤) (A : Atoms 𝓤) (mem : Mem
     goes-kept : (n : ℕ) → n < 2 ^ 64 → ent 𝓤 (emp 𝓤) (Kept .pre (to-kept n))
     goes-kept n fits = qed W [] ∵ nothing ! $ owned ! usize (Is usize) (uint-makes 𝓤 H A W w64) n _ (refl, fits) $ join ! $ nothing ! $ join ! $ frame ! $ done !
 
-    goes-held : (l : List Station) (n : ℕ) → Is R32 l (av l ∷ []) → n < 2 ^ 64 → ent 𝓤 (emp 𝓤) (BenchOf .pre (to-held l n))
+    goes-held : (l : List Station) (n : ℕ) → Is R32 l (av l ∷ []) → n < 2 ^ 64 → ent 𝓤 (emp 𝓤) (HeldOf .pre (to-held l n))
     goes-held l n is fits =
         qed W [] ∵ nothing ! $ owned ! usize (Is usize) (uint-makes 𝓤 H A W w64) n _ (refl, fits) $ join ! $
         owned ! R32 (Is R32) (array-makes 𝓤 H A W R (LL.makes T.the-type T′.the-plain 𝓤 H A) 32) l _ is $ join ! $ nothing ! $ join ! $ frame ! $ done !
@@ -181,7 +181,7 @@ module _ {M : Type 1} (𝓤 : URA M) (H : Heap 𝓤) (A : Atoms 𝓤) (W : Given
   Nearer-wf : WellFounded Nearer
   Nearer-wf = InvImage·wf (λ (i : Upto). m - i .0) (Nat·lt-wfRel .wf)
 
-  module _ (𝓣 : Tables 𝓤 H) (known-blanks : Triple 𝓤 (𝓣 .C #blanks) (Blanks 𝓤 H A at-mem run)) (known-kept : Triple 𝓤 (𝓣 .C #kept) (Kept 𝓤 H A at-mem run)) (known-held : Triple 𝓤 (𝓣 .C #held-of) (BenchOf 𝓤 H A at-mem run)) where
+  module _ (𝓣 : Tables 𝓤 H) (known-blanks : Triple 𝓤 (𝓣 .C #blanks) (Blanks 𝓤 H A at-mem run)) (known-kept : Triple 𝓤 (𝓣 .C #kept) (Kept 𝓤 H A at-mem run)) (known-held : Triple 𝓤 (𝓣 .C #held-of) (HeldOf 𝓤 H A at-mem run)) where
     abbrev C : Calls 𝓤 H
     C = 𝓣 .C
 
@@ -237,7 +237,7 @@ module _ {M : Type 1} (𝓤 : URA M) (H : Heap 𝓤) (A : Atoms 𝓤) (W : Given
           move ! (1 ∷ []) $ facts ! R32 (Is R32) (shows 𝓤 H A R32) now (av now ∷ []) (λ is-now. move ! (1 ∷ 2 ∷ 3 ∷ 4 ∷ 5 ∷ 0 ∷ []) $
           assigns ! (of-opd ! (load ! (from ! (stop !)) (look ! 5 refl))) (from ! (stop !)) (init ! 13 refl (typed32 𝓤 H A W now is-now)) $
           assigns ! (of-opd ! (load ! (from ! (fld ! refl (stop !))) (look-in ! 3 (sub ! 1 refl (whole !))))) (from ! (stop !)) (init ! 15 refl (tt, record { fits = room .0 })) $
-          calls-plain ! (fmOf 𝓤 H (W .laws) 𝓣) (BenchOf 𝓤 H A at-mem run) known-held (to-held 𝓤 H A at-mem run now n) (goes-held 𝓤 H A at-mem run W now n is-now (room .0))
+          calls-plain ! (fmOf 𝓤 H (W .laws) 𝓣) (HeldOf 𝓤 H A at-mem run) known-held (to-held 𝓤 H A at-mem run now n) (goes-held 𝓤 H A at-mem run W now n is-now (room .0))
           B.the-row bval (LL.tells B.the-type B′.the-laws) (held now n) (held-ens 𝓤 H A at-mem run now n) (λ v. id⊢ 𝓤 _) (held-says 𝓤 H A at-mem run now n)
           (and-then ! (load ! (from ! (stop !)) (look ! 14 refl)) (and-then ! (load ! (from ! (stop !)) (look ! 16 refl)) (no-more !))) (λ is.
           land ! (from ! (stop !)) (init ! 1 refl (LL.lawful B.the-type B′.the-laws 𝓤 H A W .typed (held now n) _ is .0)) $
@@ -288,7 +288,7 @@ module _ {M : Type 1} (𝓤 : URA M) (H : Heap 𝓤) (A : Atoms 𝓤) (W : Given
         rewrite ! 0 (λ (l : List Station). ‵ (row R fullShare l (lies (envOf mir.locals bs) 2) 0)) (gather-start ys) refl $ move ! (1 ∷ 2 ∷ []) $
         first ! $ blocks ! $ loops ! 𝓣 Nearer Nearer-wf (At bs q′) (turns bs q′) (0, zero-le)))))
 
-module _ {M : Type 1} (𝓤 : URA M) (H : Heap 𝓤) (A : Atoms 𝓤) (W : Given 𝓤 H A) (at-mem : Memory → SProp 𝓤) (run : Routine → Fun 𝓤) (𝓣 : Tables 𝓤 H) (known-blanks : Triple 𝓤 (𝓣 .C #blanks) (Blanks 𝓤 H A at-mem run)) (known-kept : Triple 𝓤 (𝓣 .C #kept) (Kept 𝓤 H A at-mem run)) (known-held : Triple 𝓤 (𝓣 .C #held-of) (BenchOf 𝓤 H A at-mem run)) where
+module _ {M : Type 1} (𝓤 : URA M) (H : Heap 𝓤) (A : Atoms 𝓤) (W : Given 𝓤 H A) (at-mem : Memory → SProp 𝓤) (run : Routine → Fun 𝓤) (𝓣 : Tables 𝓤 H) (known-blanks : Triple 𝓤 (𝓣 .C #blanks) (Blanks 𝓤 H A at-mem run)) (known-kept : Triple 𝓤 (𝓣 .C #kept) (Kept 𝓤 H A at-mem run)) (known-held : Triple 𝓤 (𝓣 .C #held-of) (HeldOf 𝓤 H A at-mem run)) where
   gathered-walks : Walks 𝓤 H A f.ended stayed (WpFn 𝓤 H (𝓣 .C) (𝓣 .Λ) code.function) (f.clauses 𝓤 H A at-mem run)
   gathered-walks = walked 𝓤 H A f.ended stayed (f.clauses 𝓤 H A at-mem run) (WpFn 𝓤 H (𝓣 .C) (𝓣 .Λ) code.function) (λ κs. (slice-vals, tt)) (λ κs. (shr-slice-tells (named 0) (κs .0) R, tt))
       (λ κs qs bounds a g are. via 𝓤 _ (fst∗ 𝓤 _ (emp 𝓤)) (walk 𝓤 H A W at-mem run (κs .0) (qs .0) (a .0 .ptr .0) (a .0 .ptr .1) (a .0 .name) (a .0 .now) (are .0 .0 .1) 𝓣 known-blanks known-kept known-held))
@@ -307,4 +307,4 @@ gathered-spec 𝓤 H 𝓜 𝓖 𝓡 =
     (gathered-meets 𝓤 H (𝓖 .A) (givenOf 𝓤 H 𝓜 𝓖) (𝓜 .mem) (𝓡 .run) (tablesOf 𝓤 H 𝓜 (tables 𝓤 H 𝓜 𝓡 code.env))
     (cited 𝓤 H (Blanks 𝓤 H (𝓖 .A) (𝓜 .mem) (𝓡 .run)) 𝓜 𝓡 code.env #blanks blanks-def.routine code.calls-bench-row·blanks (blanks-thm.met 𝓤 H 𝓜 𝓖 𝓡))
     (cited 𝓤 H (Kept 𝓤 H (𝓖 .A) (𝓜 .mem) (𝓡 .run)) 𝓜 𝓡 code.env #kept kept-def.routine code.calls-bench-row·kept (kept-thm.met 𝓤 H 𝓜 𝓖 𝓡))
-    (cited 𝓤 H (BenchOf 𝓤 H (𝓖 .A) (𝓜 .mem) (𝓡 .run)) 𝓜 𝓡 code.env #held-of held-of-def.routine code.calls-bench-row·bench-of (held-of-thm.met 𝓤 H 𝓜 𝓖 𝓡)))
+    (cited 𝓤 H (HeldOf 𝓤 H (𝓖 .A) (𝓜 .mem) (𝓡 .run)) 𝓜 𝓡 code.env #held-of held-of-def.routine code.calls-bench-row·held-of (held-of-thm.met 𝓤 H 𝓜 𝓖 𝓡)))
