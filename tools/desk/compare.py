@@ -1,4 +1,4 @@
-"""Compares the proved desk with the second program, byte for byte.
+"""Compares the proved desk with the second program, byte for byte, and what it says of a refused input with reasons.py.
 
   compare.py DESK SECOND CASES SEED
 
@@ -15,6 +15,7 @@ from concurrent.futures import ThreadPoolExecutor
 
 import cases
 import manners
+import reasons
 
 BATCH = 400
 
@@ -36,16 +37,16 @@ def second_texts(second, inputs):
 
 
 def desk_text(desk, data, way):
-    """What the desk writes; the input comes as a file argument, as the argument `-`, or with no argument."""
+    """What the desk writes and says; the input comes as a file argument, as the argument `-`, or with no argument."""
     with tempfile.NamedTemporaryFile() as file:
         file.write(data)
         file.flush()
         words = [[file.name], ["-"], []][way]
         with open(file.name if words != [file.name] else os.devnull, "rb") as stdin:
             ran = subprocess.run([desk] + words, stdin=stdin, capture_output=True)
-    if ran.stderr or ran.returncode:
-        raise Different(f"the desk says {ran.stderr!r} and ends with {ran.returncode}, on {kept(data)}")
-    return ran.stdout
+    if ran.returncode:
+        raise Different(f"the desk ends with {ran.returncode}, on {kept(data)}")
+    return ran.stdout, ran.stderr
 
 
 def kept(data):
@@ -61,9 +62,12 @@ def compare(pool, desk, second, inputs):
     while batch := list(itertools.islice(inputs, BATCH)):
         ways = [(count + place) % 3 for place in range(len(batch))]
         ours = pool.map(desk_text, [desk] * len(batch), batch, ways)
-        for data, mine, theirs in zip(batch, ours, second_texts(second, batch)):
+        for data, (mine, said), theirs in zip(batch, ours, second_texts(second, batch)):
             if mine != theirs:
                 raise Different(f"they differ on {kept(data)}\n desk:   {mine[:300]!r}\n second: {theirs[:300]!r}")
+            wanted = reasons.said(data, theirs)
+            if said != wanted:
+                raise Different(f"the reasons differ on {kept(data)}\n desk:   {said[:300]!r}\n wanted: {wanted!r}")
         count += len(batch)
     return count
 
@@ -71,7 +75,7 @@ def compare(pool, desk, second, inputs):
 def main():
     desk, second = sys.argv[1:3]
     many, seed = int(sys.argv[3]), int(sys.argv[4])
-    if desk_text(desk, cases.EXAMPLE, 0) != cases.EXAMPLE_TEXT:
+    if desk_text(desk, cases.EXAMPLE, 0) != (cases.EXAMPLE_TEXT, b""):
         raise Different("the desk's text for document 01's example is another")
     with ThreadPoolExecutor(os.cpu_count()) as pool:
         edges = compare(pool, desk, second, itertools.chain(cases.small(), cases.large()))

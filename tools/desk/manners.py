@@ -1,5 +1,5 @@
 """How the desk reads, writes and fails: input in pieces, input without an end, files that cannot be read, a closed pipe, output
-that cannot be written."""
+that cannot be written, and why an input is refused."""
 import os
 import random
 import signal
@@ -8,10 +8,11 @@ import tempfile
 import threading
 
 import cases
+import reasons
+from reasons import ENOUGH
 
-# What the desk reads of any input, and the memory, in KiB, that it has to do with however long the input is. An emulator takes
-# more for itself, and is not held to it.
-ENOUGH = 229415
+# The memory, in KiB, that the desk has to do with however long its input is. An emulator takes more for itself, and is not held
+# to it.
 MEMORY = 16384
 SECONDS = 60
 
@@ -26,7 +27,7 @@ def bounded(desk):
 def in_pieces(desk, data):
     """An input through a pipe, in pieces of 1 to 50 bytes."""
     rng = random.Random(1)
-    with subprocess.Popen([desk], stdin=subprocess.PIPE, stdout=subprocess.PIPE) as child:
+    with subprocess.Popen([desk], stdin=subprocess.PIPE, stdout=subprocess.PIPE, stderr=subprocess.DEVNULL) as child:
         at = 0
         while at < len(data):
             step = rng.randint(1, 50)
@@ -63,7 +64,7 @@ def read_of(desk, data):
         file.write(data)
         file.flush()
         file.seek(0)
-        subprocess.run([desk], stdin=file, stdout=subprocess.DEVNULL, check=True)
+        subprocess.run([desk], stdin=file, stdout=subprocess.DEVNULL, stderr=subprocess.DEVNULL, check=True)
         return os.lseek(file.fileno(), 0, os.SEEK_CUR)
 
 
@@ -96,12 +97,14 @@ def see(desk, second, Different):
         expect(in_pieces(desk, data) == second(data), "the text of an input that comes in small pieces")
     for first, again in ((b"own\tc\tv\n", b"iv\t64\n"), (b"", b"y\n"), (b"", b"y"), (longest, b"\n"), (b"own\tc\tv\n", b"\0")):
         out, said = without_end(desk, first, again)
-        expect(not said and out == second(first + again * ENOUGH), f"the text of an endless input of {again!r}")
+        text = second(first + again * ENOUGH)
+        expect((out, said) == (text, reasons.said(first + again * ENOUGH, text)), f"the text of an endless input of {again!r}")
     for size in (0, 1, ENOUGH - 1, ENOUGH, ENOUGH + 1, 3000000):
         expect(read_of(desk, b"y" * size) == min(size, ENOUGH), f"how much is read of {size} bytes")
     for data in (longest, b"own\tc\tv\n" + b"iv\t64\n" * 2000000):
         ran = subprocess.run(bounded(desk), input=data, capture_output=True)
-        expect(not ran.stderr and ran.stdout == second(data), f"the text of {len(data)} bytes in {MEMORY} KiB")
+        text = second(data)
+        expect((ran.stdout, ran.stderr) == (text, reasons.said(data, text)), f"the text of {len(data)} bytes in {MEMORY} KiB")
 
     with tempfile.TemporaryDirectory() as folder:
         for name in ("missing", "missing/file", "", "/proc/self/mem"):
@@ -140,6 +143,20 @@ def see(desk, second, Different):
             ran = subprocess.run(["sh", "-c", shell, desk, cases.TRUCK, file.name], capture_output=True, timeout=SECONDS)
         expect(ran.stderr == b"standard output: " + why + b"\n", f"output that cannot be written: {why.decode()}")
 
+    for data, line, why in (
+        (b"", 1, b"the input has no such line"),
+        (b"own\tc\tv", 1, b"no newline closes it"),
+        (b"own\tc\tv\r\niv\t64\r\n", 1, b"a carriage return stands before its newline"),
+        (b"own\tc\tv\niv\t64\r\n", 2, b"a carriage return stands before its newline"),
+        (b"own\tc\t\n", 1, b"it is not own, customer and vehicle, parted by tabs"),
+        (b"own\tc\tv\niv\t064\n", 2, b"it is not iv and a width, parted by a tab"),
+        (b"own\tc\tv\n" + b"iv\t64\n" * 16385, 16386, b"16384 lines with a width stand before it"),
+    ):
+        ran = run(input=data)
+        expect(ran.stdout == b"refused\t%d\n" % line and ran.stderr == b"desk: line %d: %s\n" % (line, why), f"why an input is refused: {why.decode()}")
+
+    ran = subprocess.run(["sh", "-c", 'exec "$0" --help >/dev/full', desk], capture_output=True, timeout=SECONDS)
+    expect(ran.stderr == b"standard output: No space left on device\n", "--help that cannot be written")
     ran = run("--help", stdin=subprocess.DEVNULL)
     told = [b"desk FILE", b"refused", b"frame", b"quiet", b"unfinished"] + [b"fault-%d " % n for n in range(11, 21)]
     expect(not ran.stderr and all(word in ran.stdout for word in told), "--help")

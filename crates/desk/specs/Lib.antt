@@ -1,2 +1,4 @@
+-- Definitions.
+pub mod Texts
 -- Machinery.
 pub mod Filling

@@ -1,13 +1,15 @@
 // The desk: reads a recording's text and writes what the recording holds. What it writes for every input is defined in the
 // room `desk_text`; here a file or standard input is read, and the text is written.
 mod help;
+mod reasons;
 
 ghost use mathlib.Core.Path.{_≡_};
-ghost use Prim.Native.Nat.{_+_};
+ghost use Prim.Native.Nat.{_+_, _≤_};
 ghost use lib.ListN.{length};
 ghost use Rattle.desk_text.specs.Enough.{mostInput};
 ghost use Rattle.desk_text.specs.Input.{mostWidths};
 ghost use Rattle.desk_text.specs.Promise.{mostText};
+ghost use Rattle.desk.specs.Texts.{WholeText};
 ghost use Rattle.desk.specs.Filling.{Within};
 use desk_text::Answered;
 use desk_text::MOST_TEXT;
@@ -74,20 +76,32 @@ fn put_out(text: &[u8]) {
     }
 }
 
-// Writes the text of an input.
-fn answer(input: &[u8]) {
-    let mut ws = words();
-    let mut out = page();
-    let answered = desk_report::desk(input, &mut ws, &mut out);
+// What an input comes to: how many bytes its text has, and its first bad line, or 0.
+struct Text {
+    length: usize,
+    line: usize,
+}
+
+// The whole text of an input, laid first in the page.
+fn text_in(input: &[u8], words: &mut [u32], page: &mut [u8]) -> Text
+    requires { ⌜ (mostWidths ≤ length (now words)) × (mostText ≤ length (now page)) ⌝ }
+    ensures { λ r. ⌜ WholeText (now (input .entry)) (now (page .exit)) r ⌝ }
+{
+    let answered = desk_report::desk(input, words, page);
     match answered {
-        Answered::Report { length } => {
-            put_out(&out[..length]);
-        }
-        Answered::Refused { line: _, length } => {
-            put_out(&out[..length]);
-        }
-        Answered::FewLent => {}
+        Answered::Report { length } => Text { length, line: 0 },
+        Answered::Refused { line, length } => Text { length, line },
+        Answered::FewLent => Text { length: 0, line: 0 },
     }
+}
+
+// Writes the text of an input, and why it is refused where it is.
+fn answer(input: &[u8]) {
+    let mut words = words();
+    let mut page = page();
+    let text = text_in(input, &mut words, &mut page);
+    put_out(&page[..text.length]);
+    reasons::tell(input, text.line);
 }
 
 // Answers what a descriptor gives; a failure is told with the name.

@@ -12,16 +12,15 @@ use lib.Seq.{sets, length-take-le, take-add, drop-at}
 use borrow.Author.Tests.{le-leb, lt-leb, leb-true}
 use Rattle.bytes.specs.Bytes.{indexOf, slice}
 use Rattle.laws.specs.Tests.{never, both}
-use Rattle.desk_text.specs.Grammar.{newline, spelt}
+use Rattle.desk_text.specs.Grammar.{spelt}
 use Rattle.desk_text.specs.Input.{Line, shut, unshut, lines, field, ivLine, ivAt, mostWidths, badFrom, widthsFrom}
-use Rattle.desk_text.specs.PieceLaws.{lines-first, lines-none}
+use Rattle.desk_text.specs.FoundLines.{rest-all, open-line, closed-line}
 use Rattle.desk_text.specs.GoodLines.{iv-is}
 use Rattle.desk_text.specs.Stated.{IvIs}
 use Rattle.desk_field.specs.declared.Width.{Width}
 use Rattle.desk_field.specs.declared.Width.the-variants.{Of, Not}
 use Rattle.desk_field.specs.Widths.{widthBy, widthOf}
 use Rattle.desk_judge.specs.Found.{ivOf, WidthsLaid}
-use Rattle.desk_judge.proofs.Fields.{rest-all, found}
 
 -- ## What a line comes to
 
@@ -73,17 +72,9 @@ width-part t e f h m =
     let p : take 3 t ++ take (e - 3) (drop 3 t) ≡ 105 ∷ 118 ∷ 9 ∷ f = sym (take-add 3 (e - 3) t) ∙ ap (λ (j : ℕ). take j t) d ∙ m in
     (k, sym (drop-at (take 3 t) (take (e - 3) (drop 3 t)) 3 (length-take-le 3 t (omega arith))) ∙ ap (drop 3) p)
 
--- ## Where the next line ends
+-- ## What is left
 
-module _ (t : List ℕ) {e : ℕ} (at : e ≡ 0 + indexOf 10 (slice 0 (length t) t)) where
-  open-line : 0 < length t → e ≡ length t → lines t ≡ unshut t ∷ []
-  open-line h q = lines-none t h (sym (found newline t e at) ∙ q)
-
-  closed-line : e ≤ length t → (e ≡ length t → ⊥) → lines t ≡ shut (take e t) ∷ lines (drop (e + 1) t)
-  closed-line inside n =
-      let i : e ≡ indexOf newline t = found newline t e at in
-      lines-first t (omega arith) ∙ rw (← i, add-one)
-
+-- what follows a line is shorter than the text that begins with it
 pub shorter : (t : List ℕ) (e : ℕ) → 0 < length t → length (take (length t - (e + 1)) (drop (e + 1) t)) < length t
 shorter t e h = rw (rest-all t (e + 1), length-drop (e + 1) t) (omega arith)
 

@@ -4,7 +4,6 @@ use mathlib.Core.Path.{_≡_, refl, sym, _∙_}
 use mathlib.Core.Bool.{Bool, true, false, cond, not}
 use mathlib.Core.List.{List, [], _∷_}
 use mathlib.Core.Logic.{_⊎_, inl, inr}
-use native.Mathlib.Numerals.{add-one}
 use native.Mathlib.Omega.{arith}
 use lib.Dec.{eqb}
 use lib.ListN.{length, take, drop}
@@ -16,15 +15,13 @@ use Rattle.laws.specs.Tests.{upTo}
 use Rattle.desk_text.specs.declared.Labels.{Labels}
 use Rattle.desk_text.specs.declared.JudgedInput.{JudgedInput}
 use Rattle.desk_text.specs.declared.JudgedInput.the-variants.{Good, Bad, FewLentWords}
-use Rattle.desk_text.specs.Grammar.{newline}
 use Rattle.desk_text.specs.Input.{Line, shut, unshut, lines, field, ownLine, mostWidths, badFrom, widthsFrom, firstBad, recordingOf}
 use Rattle.desk_text.specs.Whole.{recording-few}
-use Rattle.desk_text.specs.PieceLaws.{lines-first, lines-none}
+use Rattle.desk_text.specs.FoundLines.{rest-all, open-line, closed-line}
 use Rattle.desk_text.specs.Promise.{JudgedTale, ifGood, judgingBy, judging, judgedTold, laidOn, JudgePromise}
 use Rattle.desk_judge.specs.declared.Own.{Own}
 use Rattle.desk_judge.specs.declared.Own.the-variants.{Of as Two, Not as None}
 use Rattle.desk_judge.specs.Found.{ownBy, ownOf, WidthsLaid, AfterOwn, judgedBy}
-use Rattle.desk_judge.proofs.Fields.{rest-all, found}
 
 -- ## After a good first line
 
@@ -100,13 +97,11 @@ module _ (s entry : List ℕ) (h : mostWidths ≤ length entry) where
 
         go : (length s ≤ 0) ⊎ (0 < length s) → JudgePromise s entry entry (Bad 1)
         go (inl z) = refused-first [] (rw (empty s z)) refl
-        go (inr z) = refused-first (unshut s ∷ []) (lines-none s z (sym (found newline s e at) ∙ q)) refl
+        go (inr z) = refused-first (unshut s ∷ []) (open-line s at z q) refl
 
     module _ (inside : e ≤ length s) (closed : e ≡ length s → ⊥) where
       split : lines s ≡ shut (take e s) ∷ lines (drop (e + 1) s)
-      split =
-          let i : e ≡ indexOf newline s = found newline s e at in
-          lines-first s (omega arith) ∙ rw (← i, add-one)
+      split = closed-line s at inside closed
 
       pub first-bad : {w : Own} → w ≡ ownOf (take e s) → w ≡ None → JudgePromise s entry entry (Bad 1)
       first-bad a b =

@@ -7,12 +7,13 @@ use native.Mathlib.Numerals.{add-one}
 use native.Mathlib.Omega.{arith}
 use lib.Dec.{eqb}
 use lib.ListN.{length, take, drop, length-drop}
-use lib.Seq.{take-all, length-take-le}
+use lib.Seq.{length-take-le}
 use borrow.Author.Tests.{not-true, not-false, eq-eqb, ne-eqb, eqb-true, eqb-false}
 use Rattle.bytes.specs.Bytes.{indexOf, slice}
 use Rattle.label.specs.Labels.{labelByte, isLabel}
 use Rattle.desk_text.specs.Grammar.{tab, fields, same, digit, isWidth}
 use Rattle.desk_text.specs.Input.{own, iv, ivLine, ownLine}
+use Rattle.desk_text.specs.FoundLines.{rest-all, found}
 use Rattle.desk_text.specs.PieceLaws.{pieces-first, pieces-none, Shape, one, several, shape}
 use Rattle.desk_field.specs.declared.Width.{Width}
 use Rattle.desk_field.specs.declared.Width.the-variants.{Not}
@@ -20,15 +21,6 @@ use Rattle.desk_judge.specs.declared.Own.{Own}
 use Rattle.desk_judge.specs.declared.Own.the-variants.{Of as Two, Not as None}
 use Rattle.desk_judge.specs.Found.{ownBy, ivOf, ownOf, labelsOf}
 use Rattle.desk_field.specs.Widths.{widthOf}
-
--- the part from a on, as `&s[a..]` gives it
-pub rest-all : (s : List ℕ) (a : ℕ) → take (length s - a) (drop a s) ≡ drop a s
-rest-all s a = take-all (length s - a) (drop a s) (omega (arith, length-drop a s))
-
--- what a search through the whole of s finds
-pub found : (b : ℕ) (s : List ℕ) (m : ℕ) → m ≡ 0 + indexOf b (slice 0 (length s) s) → m ≡ indexOf b s
-unfolding slice
-found b s m e = e ∙ rw (take-all (length s) s (omega arith)) (omega arith)
 
 and-true : (b : Bool) → (b && true) ≡ b
 and-true true = refl

@@ -8,6 +8,7 @@ pub mod Worked
 pub mod Stated
 -- Laws.
 pub mod PieceLaws
+pub mod FoundLines
 pub mod GoodLines
 pub mod Enough
 pub mod AnswerLaws
