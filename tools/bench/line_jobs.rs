@@ -150,8 +150,8 @@ pub fn jobs() -> Vec<Job> {
         }),
     ];
     // The same intervals in recordings of different lengths: a cost that grows with the length would show here.
+    let line = recording(LONGEST);
     for length in [1_024, 2_048, 4_096, 8_192, LONGEST] {
-        let line = recording(LONGEST);
         let parts: Vec<Vec<u32>> = line.chunks(length).map(<[u32]>::to_vec).collect();
         found.push(job(
             format!("read-{length}"),
@@ -172,7 +172,7 @@ pub fn jobs() -> Vec<Job> {
         format!("live-{LONGEST}"),
         "interval",
         LONGEST,
-        recording(LONGEST),
+        line,
         |proved, line| {
             if proved {
                 hear_pass(ours::live_start(), ours::hear, ours::ask, line)

@@ -1,7 +1,8 @@
 //! Measures the proved library beside the same jobs written straight down in Rust (plain.rs, plain_reading.rs,
 //! plain_live.rs, plain_round.rs), in one process.
 //!
-//!     bench                     times: the two in turn, many rounds, medians and their ratio
+//!     bench list                the jobs: name, unit, and how many of these a pass has; after seeing that both answer the same
+//!     bench times               times: the two in turn, many rounds; name, and the median of each in nanoseconds a unit
 //!     bench JOB WHO TIMES       does a job so often and nothing else, for counting instructions; WHO is proved or plain
 
 #[allow(dead_code)]
@@ -63,12 +64,7 @@ fn measure(job: &Job) {
     }
     let each = (times * job.units) as f64;
     let (proved, plain) = (median(proved) / each, median(plain) / each);
-    println!(
-        "{:<12} {proved:9.2} ns {plain:9.2} ns a {:<9} ratio {:.2}",
-        job.name,
-        job.unit,
-        proved / plain
-    );
+    println!("{}\t{proved}\t{plain}", job.name);
 }
 
 fn main() {
@@ -88,12 +84,14 @@ fn main() {
         for _ in 0..times.parse().expect("a number of times") {
             black_box(pass());
         }
-        println!("{}", job.units);
         return;
     }
-    println!("{:<12} {:>12} {:>12}", "", "proved", "plain Rust");
     for job in &jobs {
-        assert_eq!((job.proved)(), (job.plain)(), "{} answers differ", job.name);
-        measure(job);
+        if words == ["times"] {
+            measure(job);
+        } else {
+            assert_eq!((job.proved)(), (job.plain)(), "{} answers differ", job.name);
+            println!("{}\t{}\t{}", job.name, job.unit, job.units);
+        }
     }
 }
