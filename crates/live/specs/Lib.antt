@@ -4,6 +4,7 @@ pub mod Hearing
 pub mod Shown
 -- Laws.
 pub mod Settled
+pub mod Refusing
 pub mod Opening
 pub mod Taking
 pub mod Heard
