@@ -85,7 +85,8 @@ module _ (l : Line) (xs : List Outcome) (v : Live) (h : Hears l xs v) (w : ℕ) 
   full-past (place-left f n k) = rw (f, le-ltb lastPlace (l .count) k)
   full-past (all-heard f n) = rw (f, lt-ltb lastPlace (l .count) (omega (arith, n)))
 
-  by-rules : refusal (fedOf v w (length lent) .heard) ≡ firstRule (hearRules (pastLast (l .count)) (length lent))
+  -- So its number is that of the first of the paper's rules.
+  pub by-rules : refusal (fedOf v w (length lent) .heard) ≡ firstRule (hearRules (pastLast (l .count)) (length lent))
   by-rules =
       refused-as v w (length lent)
       ∙ first-same (hearRules (saysFull v) (length lent)) (hearRules (pastLast (l .count)) (length lent)) (refl, full-past (h .counts), λ e. (refl, refl, λ f. tt))

@@ -62,10 +62,12 @@ in-frame m kept e = rw e (some-phase (m .phase))
 -- ## One interval more of a recording
 
 module _ (ws : List ℕ) (w : ℕ) where
-  long : length (on ws w) ≡ length ws + 1
+  -- the recording is one longer ..
+  pub long : length (on ws w) ≡ length ws + 1
   long = length-append ws (w ∷ [])
 
-  same : (j : ℕ) → j < length ws → single ws .shows j ≡ single (on ws w) .shows j
+  -- .. and shows what it showed
+  pub same : (j : ℕ) → j < length ws → single ws .shows j ≡ single (on ws w) .shows j
   same j h = shows-same ws (on ws w) j (sym (List·getD-append ws (w ∷ []) 0 j h))
 
   here : getD (on ws w) (length ws) 0 ≡ w

@@ -2,6 +2,7 @@
 pub mod Promise
 pub mod Hearing
 pub mod Shown
+pub mod Stated
 -- Laws.
 pub mod Settled
 pub mod Refusing
@@ -12,6 +13,7 @@ pub mod ExactlyWhen
 pub mod Asking
 pub mod Whole
 pub mod History
+pub mod CallsExactlyWhen
 pub mod HeardBack
 pub mod Worked
 pub mod AnyReader
