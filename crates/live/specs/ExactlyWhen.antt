@@ -22,8 +22,8 @@ use Rattle.frame_machine.specs.declared.Event.the-variants.{Going, Byte, Closed
 use Rattle.live_held.specs.declared.Live.{Live}
 use Rattle.live_answer.specs.declared.Heard.{Heard}
 use Rattle.live_answer.specs.declared.Heard.the-variants.{Nothing, Frame, Faulty, PastPlaces, FewLentBytes}
-use Rattle.live_taken.specs.Taken.{waiting, fedBy, stepAt, endsAt, laidBy}
-use Rattle.live.specs.Feeding.{refusedBy, takenOf, fedOf, lentOf}
+use Rattle.live_taken.specs.Taken.{waiting, fedBy, stepAt, endsAt}
+use Rattle.live.specs.Feeding.{refusedBy, takenOf, fedOf, laidOf, lentOf}
 use Rattle.live_held.specs.Held.{lastPlace, noFrame}
 use Rattle.live.specs.Promise.{toldBy, refusal, hearRules, pastLast, saysFull}
 use Rattle.live.specs.Hearing.{Counts, place-left, all-heard, Hears}
@@ -73,11 +73,8 @@ pub refused-leaves : (v : Live) (w : ℕ) (lent : List ℕ) → eqb (refusal (fe
 unfolding fedOf lentOf
 refused-leaves v w lent h = go (eqb (v .places .full) 0) (ltb (length lent) mostBytes) h
   where
-    rest : List ℕ
-    rest = cond (eqb (v .inside .phase) noFrame) lent (laidBy (stepAt v w .event) (v .inside) lent)
-
     go : (a b : Bool) → eqb (refusal (cond (not a) (refusedBy v PastPlaces) (cond b (refusedBy v FewLentBytes) (takenOf v w)) .heard)) 0 ≡ false
-        → (cond (not a) (refusedBy v PastPlaces) (cond b (refusedBy v FewLentBytes) (takenOf v w)) .live ≡ v) × (cond (not a) lent (cond b lent rest) ≡ lent)
+        → (cond (not a) (refusedBy v PastPlaces) (cond b (refusedBy v FewLentBytes) (takenOf v w)) .live ≡ v) × (cond (not a) lent (cond b lent (laidOf v w lent)) ≡ lent)
     go false b g = (refl, refl)
     go true true g = (refl, refl)
     go true false g = never (rw (taken-none v w)) g
@@ -88,7 +85,8 @@ module _ (l : Line) (xs : List Outcome) (v : Live) (h : Hears l xs v) (w : ℕ) 
   full-past (place-left f n k) = rw (f, le-ltb lastPlace (l .count) k)
   full-past (all-heard f n) = rw (f, lt-ltb lastPlace (l .count) (omega (arith, n)))
 
-  by-rules : refusal (fedOf v w (length lent) .heard) ≡ firstRule (hearRules (pastLast (l .count)) (length lent))
+  -- So its number is that of the first of the paper's rules.
+  pub by-rules : refusal (fedOf v w (length lent) .heard) ≡ firstRule (hearRules (pastLast (l .count)) (length lent))
   by-rules =
       refused-as v w (length lent)
       ∙ first-same (hearRules (saysFull v) (length lent)) (hearRules (pastLast (l .count)) (length lent)) (refl, full-past (h .counts), λ e. (refl, refl, λ f. tt))

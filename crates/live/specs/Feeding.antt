@@ -11,7 +11,7 @@ use Rattle.frame_machine.specs.declared.Phase.the-variants.{Sof}
 use Rattle.live_held.specs.declared.Live.{Live}
 use Rattle.live_held.specs.Held.{noFrame, phaseNumber, outside}
 use Rattle.live_answer.specs.declared.Heard.{Heard}
-use Rattle.live_answer.specs.declared.Heard.the-variants.{PastPlaces, FewLentBytes}
+use Rattle.live_answer.specs.declared.Heard.the-variants.{Nothing, PastPlaces, FewLentBytes}
 use Rattle.live_answer.specs.declared.Fed.{Fed}
 use Rattle.live_answer.specs.Answered.{longPlace}
 use Rattle.live_taken.specs.Taken.{fedBy, stepAt, endsAt, waiting, laidBy}
@@ -35,6 +35,10 @@ takenOf v w =
 abbrev pub refusedBy : Live → Heard → Fed
 refusedBy v h = record { heard = h; live = v }
 
+-- the refusal of an interval with so many bytes lent, and nothing where it is taken
+unfoldable pub refusalOf : Live → (lent : ℕ) → Heard
+refusalOf v lent = cond (not (eqb (v .places .full) 0)) PastPlaces (cond (ltb lent mostBytes) FewLentBytes Nothing)
+
 -- An interval of the width w, with so many bytes lent: 51 for one "past the last" place, then 32, "judged last on every
 -- interval".
 unfoldable pub fedOf : Live → (w lent : ℕ) → Fed
@@ -43,13 +47,16 @@ fedOf v w lent =
     (cond (ltb lent mostBytes) (refusedBy v FewLentBytes)
     (takenOf v w))
 
+-- the lent bytes after an interval that is not refused
+unfoldable pub laidOf : Live → (w : ℕ) → List ℕ → List ℕ
+laidOf v w lent = cond (eqb (v .inside .phase) noFrame) lent (laidBy (stepAt v w .event) (v .inside) lent)
+
 -- the lent bytes after an interval of the width w
 unfoldable pub lentOf : Live → (w : ℕ) → List ℕ → List ℕ
 lentOf v w lent =
     cond (not (eqb (v .places .full) 0)) lent
     (cond (ltb (length lent) mostBytes) lent
-    (cond (eqb (v .inside .phase) noFrame) lent
-    (laidBy (stepAt v w .event) (v .inside) lent)))
+    (laidOf v w lent))
 
 -- ## Asking
 

@@ -25,7 +25,7 @@ use Rattle.frame_machine.specs.Meaning.{meaningOf, sign-means}
 use Rattle.live_held.specs.declared.Inside.{Inside}
 use Rattle.live_held.specs.declared.Live.{Live}
 use Rattle.live_taken.specs.Taken.{endsAt, waiting}
-use Rattle.live.specs.Feeding.{started, takenOf, fedOf, lentOf}
+use Rattle.live.specs.Feeding.{started, takenOf, fedOf, laidOf, lentOf}
 use Rattle.live_held.specs.Held.{lastPlace, noFrame, phaseNumber, insideOf, outside}
 use Rattle.live.specs.Hearing.{Counts, place-left, all-heard, Rest, seeks, hears, Hears, Takes, decides-nothing}
 use Rattle.live.specs.Opening.{begins-hears}
@@ -62,10 +62,12 @@ in-frame m kept e = rw e (some-phase (m .phase))
 -- ## One interval more of a recording
 
 module _ (ws : List ℕ) (w : ℕ) where
-  long : length (on ws w) ≡ length ws + 1
+  -- the recording is one longer ..
+  pub long : length (on ws w) ≡ length ws + 1
   long = length-append ws (w ∷ [])
 
-  same : (j : ℕ) → j < length ws → single ws .shows j ≡ single (on ws w) .shows j
+  -- .. and shows what it showed
+  pub same : (j : ℕ) → j < length ws → single ws .shows j ≡ single (on ws w) .shows j
   same j h = shows-same ws (on ws w) j (sym (List·getD-append ws (w ∷ []) 0 j h))
 
   here : getD (on ws w) (length ws) 0 ≡ w
@@ -95,7 +97,7 @@ module _ (ws : List ℕ) (xs : List Outcome) (v : Live) (h : Hears (single ws) x
   -- with bytes enough lent, and a place for the interval
   taken : (entry : List ℕ) → v .places .full ≡ 0 → v .places .next ≡ length ws → length ws ≤ lastPlace → mostBytes ≤ length entry
       → Rest (single ws) (v .places) (v .inside) → Takes (single ws) (single (on ws w)) xs entry (lentOf v w entry) (fedOf v w (length entry))
-  unfolding fedOf lentOf takenOf
+  unfolding fedOf lentOf takenOf laidOf
   taken entry none-full at-k fits enough (seeks kept is has-space none) =
       rw (eq-eqb (v .places .full) 0 none-full, le-ltb (length entry) mostBytes enough, out-of-frame kept is)
       (waits entry at-k fits kept is has-space none)

@@ -2,7 +2,7 @@
 -- Any history of calls on a started reader: intervals with as many or as few bytes lent as the caller likes, and questions
 -- between them. Refused intervals and questions leave no trace, and what is left is reading.
 use Prim.Native.Nat.{ℕ, _+_, _≤_, _<_}
-use mathlib.Core.Path.{_≡_, refl, sym, ap, _∙_}
+use mathlib.Core.Path.{_≡_, refl, sym, ap, subst, _∙_}
 use mathlib.Core.Bool.{Bool, true, false, cond}
 use mathlib.Core.List.{List, [], _∷_, _++_, map}
 use native.Mathlib.Omega.{arith}
@@ -22,7 +22,7 @@ use Rattle.live.specs.Heard.{starts, takes-it}
 use Rattle.live.specs.ExactlyWhen.{refused-as, refused-leaves, hear-exactly}
 use Rattle.live.specs.Promise.{refusal, hearRules, saysFull}
 use Rattle.live.specs.Shown.{Delivered, recording, Enough, none, also, Shown, afterOne, afterAll, showsOne, showsAll, showsCalls, reads, showsAsked, LiveCall, hearing, asking, afterCalls, isTaken, takenIn}
-use Rattle.live.specs.Whole.{live-whole}
+use Rattle.live.specs.Whole.{ShowsOver, hears-all, live-whole}
 
 -- An interval that is not refused had bytes enough.
 taken-enough : (v : Live) (i : Delivered) → isTaken v i ≡ true → mostBytes ≤ length (i .lent)
@@ -80,6 +80,13 @@ few-taken (hearing i ∷ cs) done xs v h =
         → length done + length (cond b (i ∷ takenIn (afterOne v i) cs) (takenIn v cs)) ≤ lastPlace + 1
     go true e l on = one-more (takes-it done xs v h (i .width) (has-place e (h .counts)) (i .lent) (taken-enough v i e)) on
     go false e l on = l
+
+-- What a reader has heard after a history: the intervals that were not refused.
+pub heard-so-far : (cs : List LiveCall) → (xs : List Outcome) × Hears (single (recording (takenIn started cs))) xs (afterCalls started cs)
+heard-so-far cs =
+    let is : List Delivered = takenIn started cs in
+    let t : ShowsOver (recording is) [] (afterAll started is) (showsAll started is) = hears-all is (all-enough cs started) [] [] started starts (omega (arith, few-taken cs [] [] started starts)) in
+    (t .new, subst (Hears (single (recording is)) (t .new)) (sym (after-calls cs started)) (t .knows))
 
 -- What the calls of a history show is what the intervals that were not refused show by themselves.
 pub shows-calls : (cs : List LiveCall) (v : Live) → showsCalls v cs ≡ showsAll v (takenIn v cs)

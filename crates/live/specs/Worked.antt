@@ -10,9 +10,9 @@ use Rattle.frame.specs.Faults.{mostBytes}
 use Rattle.frame.specs.Reading.{good, quiet}
 use Rattle.frame.specs.Worked.{ffff, ffffRead}
 use Rattle.frame_machine.specs.Steps.{pushOf, bitOf, sofOf, closeOf}
-use Rattle.frame_parts.specs.Laying.{laidOf}
+use Rattle.frame_parts.specs.Laying.{laidOf as partsLaid}
 use Rattle.live_held.specs.Reader.{heldBy, beginsAnew, goesOn}
-use Rattle.live.specs.Feeding.{started, takenOf, fedOf, lentOf, askedOf}
+use Rattle.live.specs.Feeding.{started, takenOf, fedOf, laidOf, lentOf, askedOf}
 use Rattle.live_held.specs.Held.{insideOf, outside, after}
 use Rattle.live.specs.Shown.{Delivered, showsAll, afterAll, showsAsked, reads}
 
@@ -23,5 +23,5 @@ heardFfff = map (λ (w : ℕ). record { width = w; lent = replicate mostBytes 0 
 -- The frame FF FF is told at its closing end, with its bytes; then the reader is quiet from there.
 pub heard-worked : showsAll started heardFfff ++ (showsAsked (afterAll started heardFfff) ∷ [])
     ≡ (reads (good ffffRead) ∷ reads (quiet 18) ∷ [])
-unfolding heldBy insideOf outside after laidOf started beginsAnew goesOn takenOf fedOf lentOf askedOf pushOf bitOf sofOf closeOf classOf endOf registerStep eightShifts shift
+unfolding heldBy insideOf outside after partsLaid started beginsAnew goesOn takenOf fedOf laidOf lentOf askedOf pushOf bitOf sofOf closeOf classOf endOf registerStep eightShifts shift
 heard-worked = refl

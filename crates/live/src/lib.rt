@@ -2,10 +2,11 @@
 // reading the whole recording answers; specs/Whole.antt says so of every reader that was started and heard intervals.
 ghost use mathlib.Core.Path.{_≡_};
 ghost use lib.ListN.{length};
-ghost use Rattle.live.specs.Feeding.{started, refusedBy, fedOf, lentOf, askedOf};
+ghost use Rattle.live.specs.Feeding.{started, refusalOf, refusedBy, fedOf, lentOf, askedOf};
 use frame::MOST_BYTES;
 use live_answer::Fed;
 use live_answer::Heard;
+use live_answer::is_refusal;
 use live_held::Inside;
 use live_held::Live;
 use live_held::NO_FRAME;
@@ -44,7 +45,23 @@ pub fn start() -> Live
     }
 }
 
-// A refusal: the reader is as it was.
+// The refusal of an interval with so many bytes lent, 51 before 32. It is nothing where the interval is taken.
+pub fn refusal(live: Live, lent: usize) -> Heard
+    ensures { λ r. ⌜ r ≡ refusalOf live lent ⌝ }
+{
+    let places = live.places;
+    let past = places.full != 0;
+    let few = lent < MOST_BYTES;
+    if past {
+        return Heard::PastPlaces;
+    }
+    if few {
+        return Heard::FewLentBytes;
+    }
+    Heard::Nothing
+}
+
+// A refused interval: the reader is as it was.
 fn refused(live: Live, heard: Heard) -> Fed
     ensures { λ r. ⌜ r ≡ refusedBy live heard ⌝ }
 {
@@ -57,16 +74,11 @@ pub fn hear(live: Live, width: Micros, lent: &mut [u8]) -> Fed
     ensures { λ r. ⌜ r ≡ fedOf live (width .0) (length (now (lent .entry))) ⌝ }
     ensures { λ _. ⌜ now (lent .exit) ≡ lentOf live (width .0) (now (lent .entry)) ⌝ }
 {
-    let places = live.places;
+    let why = refusal(live, lent.len());
+    if is_refusal(why) {
+        return refused(live, why);
+    }
     let inside = live.inside;
-    let past = places.full != 0;
-    let few = lent.len() < MOST_BYTES;
-    if past {
-        return refused(live, Heard::PastPlaces);
-    }
-    if few {
-        return refused(live, Heard::FewLentBytes);
-    }
     if inside.phase == NO_FRAME {
         return outside_frame(live, width);
     }

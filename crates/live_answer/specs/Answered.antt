@@ -1,7 +1,7 @@
 -- Machinery.
 -- What an interval answers that is not refused, and the reader after it, as the code has them.
 use Prim.Native.Nat.{ℕ}
-use mathlib.Core.Bool.{Bool}
+use mathlib.Core.Bool.{Bool, true, false}
 use mathlib.Core.List.{List}
 use Rattle.units.specs.declared.LongPlace.{LongPlace}
 use Rattle.frame.specs.declared.Fault.{Fault}
@@ -11,7 +11,7 @@ use Rattle.frame_parts.specs.Parts.{partsOf}
 use Rattle.live_held.specs.declared.Live.{Live}
 use Rattle.live_held.specs.Reader.{beginsAnew, goesOn}
 use Rattle.live_answer.specs.declared.Heard.{Heard}
-use Rattle.live_answer.specs.declared.Heard.the-variants.{Nothing, Frame, Faulty}
+use Rattle.live_answer.specs.declared.Heard.the-variants.{Nothing, Frame, Faulty, PastPlaces, FewLentBytes}
 use Rattle.live_answer.specs.declared.Fed.{Fed}
 
 -- a place by its number
@@ -35,3 +35,11 @@ closedFrame v m end =
 abbrev pub faultHeard : Live → Fault → (end : Bool) → Fed
 faultHeard v f end =
     record { heard = Faulty f (longPlace (v .places .next)); live = beginsAnew v (v .places .next) end }
+
+-- the answer is a refusal
+abbrev pub isRefusal : Heard → Bool
+isRefusal Nothing = false
+isRefusal (Frame lengths response opening next) = false
+isRefusal (Faulty fault next) = false
+isRefusal PastPlaces = true
+isRefusal FewLentBytes = true

@@ -1,7 +1,7 @@
 // What an interval answers that is not refused, by value, and the reader after it: it decides nothing, it closes a frame, or it
 // is at fault.
 ghost use mathlib.Core.Path.{_≡_};
-ghost use Rattle.live_answer.specs.Answered.{stillOpen, closedFrame, faultHeard};
+ghost use Rattle.live_answer.specs.Answered.{stillOpen, closedFrame, faultHeard, isRefusal};
 use frame::Fault;
 use frame::Lengths;
 use frame::MOST_BYTES;
@@ -79,5 +79,23 @@ pub fn at_fault(live: Live, fault: Fault, end: bool) -> Fed
             next: LongPlace(here),
         },
         live: begins_anew(live, here, end),
+    }
+}
+
+// Whether an answer is a refusal.
+pub fn is_refusal(heard: Heard) -> bool
+    ensures { λ r. ⌜ r ≡ isRefusal heard ⌝ }
+{
+    match heard {
+        Heard::Nothing => false,
+        Heard::Frame {
+            lengths: _,
+            response: _,
+            opening: _,
+            next: _,
+        } => false,
+        Heard::Faulty { fault: _, next: _ } => false,
+        Heard::PastPlaces => true,
+        Heard::FewLentBytes => true,
     }
 }

@@ -8,13 +8,18 @@ use live_answer::Heard;
 use live_held::Live;
 use units::Micros;
 
-// One interval more. The bytes of a frame that it closes go into those lent, at least 12. A refusal changes nothing.
+// One interval more. The bytes of a frame that it closes go into those lent, at least 12. A refusal changes nothing, and
+// nothing is stored: a reader that cannot be written may be lent to a call that is refused.
 pub fn hear(live: &mut Live, width: Micros, lent: &mut [u8]) -> Heard
     ensures { λ r. ⌜ (r ≡ fedOf (now (live .entry)) (width .0) (length (now (lent .entry))) .heard)
         × (now (live .exit) ≡ fedOf (now (live .entry)) (width .0) (length (now (lent .entry))) .live)
         × (now (lent .exit) ≡ lentOf (now (live .entry)) (width .0) (now (lent .entry))) ⌝ }
 {
     let entry = *live;
+    let why = live::refusal(entry, lent.len());
+    if live_answer::is_refusal(why) {
+        return why;
+    }
     let fed = live::hear(entry, width, lent);
     *live = fed.live;
     fed.heard
