@@ -25,8 +25,8 @@ allHeard = 1
 -- the number of each phase of the frame machine in a reader that hears a frame
 abbrev pub phaseNumber : Phase → ℕ
 phaseNumber Sof = 1
-phaseNumber Main = 2
-phaseNumber Normalization = 3
+phaseNumber Normalization = 2
+phaseNumber Main = 3
 phaseNumber Plain = 4
 phaseNumber Checked = 5
 

@@ -17,7 +17,7 @@ use Rattle.live_held.specs.Held.{insideOf, outside, after}
 
 -- the phase that a number stands for
 abbrev pub phaseBy : ℕ → Phase
-phaseBy n = cond (eqb n 1) Sof (cond (eqb n 2) Main (cond (eqb n 3) Normalization (cond (eqb n 4) Plain Checked)))
+phaseBy n = cond (eqb n 1) Sof (cond (eqb n 2) Normalization (cond (eqb n 3) Main (cond (eqb n 4) Plain Checked)))
 
 -- the lesser of two numbers
 abbrev pub least : ℕ → ℕ → ℕ

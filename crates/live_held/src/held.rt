@@ -8,14 +8,15 @@ use frame::MOST_BYTES;
 use frame_machine::Machine;
 use frame_machine::Phase;
 
-// The number of each phase in a reader; before an opening there is no frame and no phase.
+// The number of each phase in a reader; before an opening there is no frame and no phase. They come in the order of `Phase`, so
+// that the compiler adds 1 to a phase, or takes 1 from a number, where it would look them up.
 pub const NO_FRAME: u16 = 0;
 
 pub const SOF_NEXT: u16 = 1;
 
-const IN_MAIN: u16 = 2;
+const NORMALIZATION_NEXT: u16 = 2;
 
-const NORMALIZATION_NEXT: u16 = 3;
+const IN_MAIN: u16 = 3;
 
 const IN_PLAIN: u16 = 4;
 
@@ -41,11 +42,11 @@ fn phase_by(number: u16) -> Phase
     if number == SOF_NEXT {
         return Phase::Sof;
     }
-    if number == IN_MAIN {
-        return Phase::Main;
-    }
     if number == NORMALIZATION_NEXT {
         return Phase::Normalization;
+    }
+    if number == IN_MAIN {
+        return Phase::Main;
     }
     if number == IN_PLAIN {
         return Phase::Plain;

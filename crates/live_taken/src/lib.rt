@@ -42,7 +42,6 @@ pub fn inside_frame(live: Live, width: Micros, lent: &mut [u8]) -> Fed
 {
     let places = live.places;
     let inside = live.inside;
-    let mut kept = inside.kept;
     let active = active_at(places.next);
     let end = symbol::is_end(active, width);
     let held = held_by(inside);
@@ -52,12 +51,17 @@ pub fn inside_frame(live: Live, width: Micros, lent: &mut [u8]) -> Fed
     let event = stepped.event;
     let then = stepped.machine;
     match event {
-        Event::Going => going(live, then, kept),
+        Event::Going => {
+            let kept = inside.kept;
+            going(live, then, kept)
+        }
         Event::Byte(byte) => {
+            let mut kept = inside.kept;
             kept[count] = byte;
             going(live, then, kept)
         }
         Event::Closed => {
+            let kept = inside.kept;
             frame_parts::lay(kept, count, lent);
             closed(live, held, end)
         }

@@ -2,7 +2,7 @@
 // which the line stays passive or active, and every trace that cannot be trusted is turned away with a reason of its own.
 ghost use mathlib.Core.Path.{_≡_};
 ghost use Prim.Native.Nat.{_≤_, _<_};
-ghost use mathlib.Core.Bool.{false};
+ghost use mathlib.Core.Bool.{true, false, not, Bool·beq};
 ghost use mathlib.Core.List.{_++_};
 ghost use lib.ListN.{length, drop};
 ghost use Rattle.volts.specs.Levels.{levelAfter, isUnusable};
@@ -27,16 +27,39 @@ fn unusable(judged: Judged) -> bool
     }
 }
 
-// Whether the line is active after a judged sample, given whether it was before.
-fn level_after(active: bool, judged: Judged) -> bool
-    ensures { λ r. ⌜ r ≡ levelAfter active judged ⌝ }
+// Whether a line that was passive is active after a judged sample.
+fn rises(judged: Judged) -> bool
+    ensures { λ r. ⌜ r ≡ levelAfter false judged ⌝ }
 {
     match judged {
         Judged::Active(_) => true,
         Judged::Passive(_) => false,
-        Judged::Between(_) => active,
-        Judged::Unusable => active,
+        Judged::Between(_) => false,
+        Judged::Unusable => false,
     }
+}
+
+// Whether a line that was active is active after a judged sample.
+fn lasts(judged: Judged) -> bool
+    ensures { λ r. ⌜ r ≡ levelAfter true judged ⌝ }
+{
+    match judged {
+        Judged::Active(_) => true,
+        Judged::Passive(_) => false,
+        Judged::Between(_) => true,
+        Judged::Unusable => true,
+    }
+}
+
+// Whether a judged sample changes the level of the line. Each former level has a test of its own, which compiles to
+// comparisons of the volts and not to a choice between four judgements.
+fn changes(active: bool, judged: Judged) -> bool
+    ensures { λ r. ⌜ r ≡ not (Bool·beq (levelAfter active judged) active) ⌝ }
+{
+    if active {
+        return !lasts(judged);
+    }
+    rises(judged)
 }
 
 // Whether any sample of a trace cannot be used. This pass comes before the first word is written, so that a trace that is
@@ -66,22 +89,19 @@ fn write_intervals(gate: Gate, samples: &[f32], words: &mut [u32]) -> usize
     let mut active = false;
     let mut i = 0usize;
     while i < samples.len() {
-        let level = level_after(
-            active,
-            volts::against_levels(gate, samples[i] - gate.offset),
-        );
+        let judged = volts::against_levels(gate, samples[i] - gate.offset);
         let lasted = width.0;
-        if level == active {
-            let longer = lasted + 1;
-            width = Micros(longer);
-        } else {
+        if changes(active, judged) {
             let at = next.0;
             words[at] = lasted;
             let after = at + 1;
             next = Place(after);
             width = Micros(1);
+            active = !active;
+        } else {
+            let longer = lasted + 1;
+            width = Micros(longer);
         }
-        active = level;
         i += 1;
     }
     let at = next.0;

@@ -34,7 +34,7 @@ enum-known-event : tie.Need-enum-known-event
 enum-known-event c = search needs
 
 array-write-kept : tie.Need-array-write-kept
-array-write-kept c = has-space _ (c .before .before .before .before .before .before .before .held-by .result) (c .before .before .before .before .before .sign-of .result) _ _ (c .before .before .before .before .step .ensures) (c .before .event .given .1)
+array-write-kept c = let stepped = c .before .before .before .before .before in has-space _ (stepped .before .before .before .held-by .result) (stepped .before .sign-of .result) _ _ (stepped .step .ensures) (c .before .before .event .given .1)
 
 going-requires-2 : tie.Need-going-requires-2
 going-requires-2 c κs = search needs
@@ -55,19 +55,35 @@ at-fault-requires : tie.Need-at-fault-requires
 at-fault-requires c κs = search needs
 
 returns : tie.Need-returns
-returns c = let a = c .before .before .before .before .before .before .before .before .before .before .before .before .before .before .args in let s = steps-by (a .live) (a .width .0) _ _ _ _ _ _ (c .before .before .before .before .before .before .before .before .before .active-at .ensures) (c .before .before .before .before .before .before .before .before .is-end .ensures) (c .before .before .before .before .before .before .before .held-by .ensures) (c .before .before .before .before .before .before .class .ensures) (c .before .before .before .before .before .sign-of .ensures) (c .before .before .before .before .step .ensures) in (c .going .ensures ∙ fed-by _ _ _ _ s _ (c .before .enum-told .given .1), laid-by _ _ _ _ s _ (c .before .enum-told .given .1) _)
+returns c =
+    let stepped = c .before .before .before .before .before in
+    let a = stepped .before .before .before .before .before .before .before .before .before .args in
+    let s = steps-by (a .live) (a .width .0) _ _ _ _ _ _ (stepped .before .before .before .before .before .active-at .ensures) (stepped .before .before .before .before .is-end .ensures) (stepped .before .before .before .held-by .ensures) (stepped .before .before .class .ensures) (stepped .before .sign-of .ensures) (stepped .step .ensures) in
+    (c .going .ensures ∙ fed-by _ _ _ _ s _ (c .before .before .enum-told .given .1), laid-by _ _ _ _ s _ (c .before .before .enum-told .given .1) _)
 
 returns-2 : tie.Need-returns-2
-returns-2 c = let a = c .before .before .before .before .before .before .before .before .before .before .before .before .before .before .before .args in let s = steps-by (a .live) (a .width .0) _ _ _ _ _ _ (c .before .before .before .before .before .before .before .before .before .before .active-at .ensures) (c .before .before .before .before .before .before .before .before .before .is-end .ensures) (c .before .before .before .before .before .before .before .before .held-by .ensures) (c .before .before .before .before .before .before .before .class .ensures) (c .before .before .before .before .before .before .sign-of .ensures) (c .before .before .before .before .before .step .ensures) in (rw (c .before .before .before .before .before .before .before .before .held-by .ensures) at (c .going2 .ensures) ∙ fed-by _ _ _ _ s _ (c .before .before .event .given .1), laid-by _ _ _ _ s _ (c .before .before .event .given .1) _)
+returns-2 c =
+    let stepped = c .before .before .before .before .before .before in
+    let a = stepped .before .before .before .before .before .before .before .before .before .args in
+    let s = steps-by (a .live) (a .width .0) _ _ _ _ _ _ (stepped .before .before .before .before .before .active-at .ensures) (stepped .before .before .before .before .is-end .ensures) (stepped .before .before .before .held-by .ensures) (stepped .before .before .class .ensures) (stepped .before .sign-of .ensures) (stepped .step .ensures) in
+    (rw (stepped .before .before .before .held-by .ensures) at (c .going2 .ensures) ∙ fed-by _ _ _ _ s _ (c .before .before .before .event .given .1), laid-by _ _ _ _ s _ (c .before .before .before .event .given .1) _)
 
 same-length : tie.Need-same-length
 same-length c = search needs
 
 returns-3 : tie.Need-returns-3
-returns-3 c = let a = c .before .before .before .before .before .before .before .before .before .before .before .before .before .before .before .before .before .before .args in let s = steps-by (a .live) (a .width .0) _ _ _ _ _ _ (c .before .before .before .before .before .before .before .before .before .before .before .before .before .active-at .ensures) (c .before .before .before .before .before .before .before .before .before .before .before .before .is-end .ensures) (c .before .before .before .before .before .before .before .before .before .before .before .held-by .ensures) (c .before .before .before .before .before .before .before .before .before .before .class .ensures) (c .before .before .before .before .before .before .before .before .before .sign-of .ensures) (c .before .before .before .before .before .before .before .before .step .ensures) in (rw (c .before .before .before .before .before .before .before .before .before .before .before .held-by .ensures) at (c .closed .ensures) ∙ fed-by _ _ _ _ s _ (c .before .before .before .before .before .enum-told2 .given .1), rw (c .before .before .before .before .before .before .before .before .before .before .before .held-by .ensures) at (c .before .before .before .lay .ensures) ∙ laid-by _ _ _ _ s _ (c .before .before .before .before .before .enum-told2 .given .1) _)
+returns-3 c =
+    let stepped = c .before .before .before .before .before .before .before .before .before in
+    let a = stepped .before .before .before .before .before .before .before .before .before .args in
+    let s = steps-by (a .live) (a .width .0) _ _ _ _ _ _ (stepped .before .before .before .before .before .active-at .ensures) (stepped .before .before .before .before .is-end .ensures) (stepped .before .before .before .held-by .ensures) (stepped .before .before .class .ensures) (stepped .before .sign-of .ensures) (stepped .step .ensures) in
+    (rw (stepped .before .before .before .held-by .ensures) at (c .closed .ensures) ∙ fed-by _ _ _ _ s _ (c .before .before .before .before .before .before .enum-told2 .given .1), rw (stepped .before .before .before .held-by .ensures) at (c .before .before .before .lay .ensures) ∙ laid-by _ _ _ _ s _ (c .before .before .before .before .before .before .enum-told2 .given .1) _)
 
 returns-4 : tie.Need-returns-4
-returns-4 c = let a = c .before .before .before .before .before .before .before .before .before .before .before .before .before .before .before .args in let s = steps-by (a .live) (a .width .0) _ _ _ _ _ _ (c .before .before .before .before .before .before .before .before .before .before .active-at .ensures) (c .before .before .before .before .before .before .before .before .before .is-end .ensures) (c .before .before .before .before .before .before .before .before .held-by .ensures) (c .before .before .before .before .before .before .before .class .ensures) (c .before .before .before .before .before .before .sign-of .ensures) (c .before .before .before .before .before .step .ensures) in (c .at-fault .ensures ∙ fed-by _ _ _ _ s _ (c .before .before .event2 .given .1), laid-by _ _ _ _ s _ (c .before .before .event2 .given .1) _)
+returns-4 c =
+    let stepped = c .before .before .before .before .before in
+    let a = stepped .before .before .before .before .before .before .before .before .before .args in
+    let s = steps-by (a .live) (a .width .0) _ _ _ _ _ _ (stepped .before .before .before .before .before .active-at .ensures) (stepped .before .before .before .before .is-end .ensures) (stepped .before .before .before .held-by .ensures) (stepped .before .before .class .ensures) (stepped .before .sign-of .ensures) (stepped .step .ensures) in
+    (c .at-fault .ensures ∙ fed-by _ _ _ _ s _ (c .before .before .event2 .given .1), laid-by _ _ _ _ s _ (c .before .before .event2 .given .1) _)
 
 pub inside-frame-spec : {M : Type 1} → statement M
 inside-frame-spec =

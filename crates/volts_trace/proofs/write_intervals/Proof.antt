@@ -1,11 +1,14 @@
 -- `volts_trace::write_intervals` meets its contract. The loop's invariant is the record `Turn`. Assumes nothing.
 use Prim.Native.Nat.{_-_}
-use mathlib.Core.Path.{ap, _∙_}
+use mathlib.Core.Path.{sym, ap, _∙_}
+use mathlib.Core.Bool.{not, Bool·beq}
 use mathlib.Core.Logic.{⊎-elim}
 use native.Mathlib.Omega.{arith}
 use borrow.Author.Needs.{needs}
 use lib.ListN.{length}
+use Rattle.volts.specs.declared.Judged.{Judged}
 use Rattle.volts.specs.Levels.{levelAfter}
+use Rattle.volts_trace.proofs.Changing.{changed, unchanged, other-level, same-level}
 use Rattle.volts_trace.proofs.Usable.{usable-at}
 use Rattle.volts_trace.proofs.Turns.{Turn, turn-first, turn-same, turn-other, turn-count, turn-words}
 use Rattle.volts_trace.proofs.write_intervals.Statement.{statement}
@@ -29,11 +32,8 @@ shared-slice-read-against-levels c = search needs
 against-levels-requires : tie.Need-against-levels-requires Inv-loop μ-loop
 against-levels-requires c κs = search needs
 
-level-after-requires : tie.Need-level-after-requires Inv-loop μ-loop
-level-after-requires c κs = search needs
-
-add-longer : tie.Need-add-longer Inv-loop μ-loop
-add-longer c = search needs
+changes-requires : tie.Need-changes-requires Inv-loop μ-loop
+changes-requires c κs = search needs
 
 mul-words : tie.Need-mul-words Inv-loop μ-loop
 mul-words c = search needs
@@ -44,6 +44,9 @@ slice-write-words c = search needs
 add-after : tie.Need-add-after Inv-loop μ-loop
 add-after c = search needs
 
+add-longer : tie.Need-add-longer Inv-loop μ-loop
+add-longer c = search needs
+
 add-i : tie.Need-add-i Inv-loop μ-loop
 add-i c = search needs
 
@@ -52,15 +55,15 @@ loop-less c = search needs
 
 loop-again : tie.Need-loop-again Inv-loop μ-loop
 loop-again c =
-    let judged = c .before in
-    let test = judged .before .before .before .before in
+    let test = c .before .before .before .before .before in
     let turn = test .before .loop .inv in
+    let active = test .before .loop .active in
     let none = test .before .before .before .before .pre .0 in
     let usable = usable-at _ _ _ none (test .loop-test .taken) in
-    let level = judged .level-after .ensures ∙ ap (levelAfter (test .before .loop .active)) (judged .before .against-levels .ensures ∙ usable) in
+    let changing = c .before .changes .ensures ∙ ap (λ (j : Judged). not (Bool·beq (levelAfter active j) active)) (c .before .before .against-levels .ensures ∙ usable) in
     ⊎-elim
-    (λ w. rw (w .1, w .2, w .3) (turn-same _ _ _ _ _ _ _ _ turn _ (test .loop-test .taken) level (w .0 .taken)))
-    (λ w. rw (w .1, w .2, w .3) (turn-other _ _ _ _ _ _ _ _ turn _ (test .loop-test .taken) level (omega arith) (w .0 .left)))
+    (λ w. rw (w .1, w .2, w .3, w .4) (turn-other _ _ _ _ _ _ _ _ turn _ (test .loop-test .taken) (changed _ _ (sym changing ∙ w .0 .taken)) (omega arith) (other-level active)))
+    (λ w. rw (w .1, w .2, w .3, w .4) (turn-same _ _ _ _ _ _ _ _ turn _ (test .loop-test .taken) (unchanged _ _ (sym changing ∙ w .0 .left)) (same-level active)))
     (c .if1 .came)
 
 mul-words-2 : tie.Need-mul-words-2 Inv-loop μ-loop
@@ -93,11 +96,11 @@ write-intervals-spec =
     mul-against-levels
     shared-slice-read-against-levels
     against-levels-requires
-    level-after-requires
-    add-longer
+    changes-requires
     mul-words
     slice-write-words
     add-after
+    add-longer
     add-i
     loop-less
     loop-again
