@@ -25,10 +25,11 @@ use frame::MOST_WORDS;
 use symbol::END_SENT;
 use units::Micros;
 
-// What a round answers, and the held row after it.
+// What a round answers, the held row after it, and whether the round was taken: where it was not, nothing is put back.
 pub struct Played {
     pub held: HeldRow,
     pub answer: RoundAnswer,
+    pub taken: bool,
 }
 
 // Plays a round.
@@ -46,10 +47,18 @@ pub fn round_on(held: HeldRow, words: &mut [u32]) -> Played
             at: after,
             count: held.count,
         };
-        return Played { held: next, answer };
+        return Played {
+            held: next,
+            answer,
+            taken: true,
+        };
     }
     let answer = turned_away(told);
-    Played { held, answer }
+    Played {
+        held,
+        answer,
+        taken: false,
+    }
 }
 
 // Why a round is turned away, in document 01's order, or that it is played.
