@@ -2,11 +2,13 @@
 -- Laws of the loops over the stations of a row: an array that has something of each station, and what one station brings.
 use Prim.Native.Nat.{ℕ, zero, suc, _+_, _*_, _-_, _≤_, _<_, min}
 use mathlib.Core.Path.{_≡_, refl, sym, subst, ap, ap₂, _∙_}
+use mathlib.Core.Logic.{_⊎_, inl, inr}
 use mathlib.Core.List.{List, [], _∷_, _++_, map, append-assoc}
 use native.Mathlib.Omega.{arith}
 use lib.ListN.{length, take, drop, getD, set, replicate, length-append}
 use lib.Seq.{length-take-le, take-all, set-at}
 use borrow.Author.Tests.{eq-eqb, ne-eqb}
+use Rattle.laws.specs.Tests.{upTo}
 use Rattle.checkbyte.specs.Register.{checkOf}
 use Rattle.bench.specs.declared.Station.{Station}
 use Rattle.bench.specs.declared.Verdict.{Verdict}
@@ -15,8 +17,26 @@ use Rattle.bench.specs.Round.{verdictOf}
 use Rattle.loops.specs.Scan.{from, map-from, from-list, getD-any, filled, fill-start, fill-more, fill-all}
 use Rattle.bench_line.specs.Lanes.{mostSent}
 use Rattle.bench_line.specs.Seats.{faredIn, faresAt}
-use Rattle.bench_line.specs.Entries.{countOf, frameOf, clippedCount, clippedFrame, verdictsAt}
+use Rattle.bench_line.specs.Entries.{Holders, countOf, frameOf, clippedCount, clippedFrame, verdictsAt}
 use Rattle.bench_line.specs.Stated.{clipped}
+
+-- ## The last holder
+
+module _ (row : List Station) where
+  -- past the last place there is none ..
+  pub holders-start : Holders row mostStations
+  holders-start = record { few = omega arith; none = λ i lo hi. absurd (omega arith) }
+
+  -- .. and none from one place less on, where an empty station stands there
+  pub holders-less : (n : ℕ) → Holders row n → 0 < n → length row ≡ mostStations → (d : Station) → getD row (n - 1) d .len ≤ 0 → Holders row (n - 1)
+  holders-less n s h m d e = record { few = omega (arith, s .few); none = λ i lo hi. go i lo hi (upTo n i) }
+    where
+      go : (i : ℕ) → n - 1 ≤ i → i < mostStations → (n ≤ i) ⊎ (i < n) → getD row i blank .len ≡ 0
+      go i lo hi (inl k) = s .none i k hi
+      go i lo hi (inr k) =
+          let z : n - 1 ≡ i = omega arith in
+          let own : getD row (n - 1) d .len ≡ getD row i blank .len = ap (λ (x : Station). x .len) (getD-any row (n - 1) d blank (omega arith) ∙ ap (λ (x : ℕ). getD row x blank) z) in
+          omega arith
 
 -- ## An array that has something of each station
 

@@ -1,6 +1,7 @@
 -- Laws.
 -- The lanes of a round as the code keeps them: what each place asks at a bit, and what becomes of it.
-use Prim.Native.Nat.{ℕ, suc, _+_, _/_}
+use Prim.Native.Nat.{ℕ, suc, _+_, _/_, _≤_, _<_}
+use mathlib.Core.Path.{_≡_}
 use mathlib.Core.Bool.{Bool, false}
 use mathlib.Core.List.{List, [], _∷_}
 use lib.ListN.{getD}
@@ -24,6 +25,11 @@ pub record Lanes : Type 0 where
 -- the four together
 abbrev pub lanesOf : List ℕ → List (List ℕ) → List ℕ → List ℕ → Lanes
 lanesOf counts frames shorts longs = record { counts = counts; frames = frames; shorts = shorts; longs = longs }
+
+-- from place n on nobody has a bit to send
+pub record Silent (counts : List ℕ) (n : ℕ) : Type 0 where
+  pub few : n ≤ mostStations
+  pub none : (i : ℕ) → n ≤ i → i < mostStations → getD counts i 0 ≡ 0
 
 -- a place at bit j, from 0 on
 unfoldable pub laneAt : Lanes → List ℕ → ℕ → ℕ → Lane

@@ -4,12 +4,27 @@ ghost use Prim.Native.Nat.{min};
 ghost use mathlib.Core.Path.{_≡_};
 ghost use mathlib.Core.List.{map};
 ghost use Rattle.bench.specs.Stations.{mostStored};
-ghost use Rattle.bench_line.specs.Entries.{clippedCount, clippedFrame, widthOf};
+ghost use Rattle.bench_line.specs.Entries.{Holders, clippedCount, clippedFrame, widthOf};
 use bench::MOST_SENT;
 use bench::MOST_STATIONS;
 use bench::MOST_STORED;
 use bench::Station;
 use bench_lane::BITS_OF_BYTE;
+
+// The number of places up to the last holder: a round looks at no more, however long the row is.
+pub(crate) fn places(row: [Station; MOST_STATIONS]) -> usize
+    ensures { λ r. ⌜ Holders row r ⌝ }
+{
+    let mut n = MOST_STATIONS;
+    while 0 < n {
+        let station = row[n - 1];
+        if 0 < station.len {
+            return n;
+        }
+        n -= 1;
+    }
+    n
+}
 
 // How many bits a station has to send, with those of its check byte.
 fn count_of(station: Station) -> usize

@@ -13,7 +13,7 @@ ghost use lib.ListN.{length};
 ghost use Rattle.bench.specs.Stations.{mostStations};
 ghost use Rattle.bench.specs.Course.{mostBits, onLine};
 ghost use Rattle.bench_lane.specs.Lane.{askOf};
-ghost use Rattle.bench_line.specs.Lanes.{lanesOf, laneAt, asksAt, allAsked, lostAll};
+ghost use Rattle.bench_line.specs.Lanes.{Silent, lanesOf, laneAt, asksAt, allAsked, lostAll};
 use bench::MOST_SENT;
 use bench::MOST_STATIONS;
 use bench_lane::Ask;
@@ -45,7 +45,7 @@ fn asks_at(
     bench_lane::asks(counts[i], byte, shorts[i], longs[i], lost_at, active, j)
 }
 
-// What all places ask of the line at bit j.
+// What all places ask of the line at bit j. Only those before `places` have anything to send.
 pub(crate) fn all_ask(
     counts: &[usize; MOST_STATIONS],
     frames: &[[u8; MOST_SENT]; MOST_STATIONS],
@@ -54,15 +54,16 @@ pub(crate) fn all_ask(
     lost: &[usize; MOST_STATIONS],
     active: bool,
     j: usize,
+    places: usize,
 ) -> LineAsk
-    requires { ⌜ j < mostBits ⌝ }
+    requires { ⌜ (j < mostBits) × Silent (now counts) places ⌝ }
     ensures { λ r. ⌜ r ≡ allAsked active (asksAt (lanesOf (now (counts .entry)) (now (frames .entry)) (now (shorts .entry)) (now (longs .entry))) (now (lost .entry)) active j) ⌝ }
 {
     let mut all = LineAsk {
         some: false,
         width: 0,
     };
-    let mut i = MOST_STATIONS;
+    let mut i = places;
     while 0 < i {
         i -= 1;
         let ask = asks_at(counts, frames, shorts, longs, lost, active, i, j);
@@ -71,7 +72,7 @@ pub(crate) fn all_ask(
     all
 }
 
-// Every place hears bit j.
+// Every place hears bit j. It says nothing to those from `places` on, which have nothing to send.
 pub(crate) fn hear(
     counts: &[usize; MOST_STATIONS],
     frames: &[[u8; MOST_SENT]; MOST_STATIONS],
@@ -81,12 +82,13 @@ pub(crate) fn hear(
     active: bool,
     j: usize,
     one: bool,
+    places: usize,
 )
-    requires { ⌜ (j < mostBits) × (length (now lost) ≡ mostStations) ⌝ }
+    requires { ⌜ (j < mostBits) × (length (now lost) ≡ mostStations) × Silent (now counts) places ⌝ }
     ensures { λ _. ⌜ now (lost .exit) ≡ lostAll (lanesOf (now (counts .entry)) (now (frames .entry)) (now (shorts .entry)) (now (longs .entry))) (now (lost .entry)) active j one ⌝ }
 {
     let mut i = 0;
-    while i < MOST_STATIONS {
+    while i < places {
         let ask = asks_at(counts, frames, shorts, longs, lost, active, i, j);
         lost[i] = bench_lane::lost_by(ask, lost[i], j + 1, one);
         i += 1;

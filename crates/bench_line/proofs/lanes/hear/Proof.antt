@@ -11,13 +11,13 @@ use Rattle.bench_line.proofs.lanes.hear.Statement.{statement}
 use Rattle.bench_line.proofs.lanes.hear.Tie as tie
 
 abbrev Inv-loop : tie.InvT-loop
-Inv-loop counts frames shorts longs lost₀ active j one i₀ lost i = (i ≤ mostStations) × (length lost₀ ≡ mostStations) × (lost ≡ filled (heardAt (lanesOf counts frames shorts longs) lost₀ active j one) lost₀ i)
+Inv-loop counts frames shorts longs lost₀ active j one places i₀ lost i = (i ≤ places) × (places ≤ mostStations) × (length lost₀ ≡ mostStations) × (lost ≡ filled (heardAt (lanesOf counts frames shorts longs) lost₀ active j one) lost₀ i)
 
 abbrev μ-loop : tie.MeasureT-loop
-μ-loop counts frames shorts longs lost₀ active j one i₀ lost i = mostStations - i
+μ-loop counts frames shorts longs lost₀ active j one places i₀ lost i = places - i
 
 loop-holds : tie.Need-loop-holds Inv-loop μ-loop
-loop-holds c = (search needs, search needs, fill-start _ _)
+loop-holds c = (search needs, c .pre .2 .few, search needs, fill-start _ _)
 
 asks-at-requires : tie.Need-asks-at-requires Inv-loop μ-loop
 asks-at-requires c κs = search needs
@@ -50,10 +50,10 @@ loop-again : tie.Need-loop-again Inv-loop μ-loop
 loop-again c =
     let b = c .before .before .before .before in
     let i : _ = b .before .loop .inv in
-    (search needs, i .1, hear-more _ _ _ _ _ (b .before .loop .i) (search needs) _ (i .2) _ (c .before .before .asks-at .ensures) _ (c .lost-by .ensures))
+    (search needs, i .1, i .2, hear-more _ _ _ _ _ (b .before .loop .i) (search needs) _ (i .3) _ (c .before .before .asks-at .ensures) _ (c .lost-by .ensures))
 
 returns : tie.Need-returns Inv-loop μ-loop
-returns c = let i = c .before .loop .inv in hear-all _ _ _ _ _ (c .before .loop .i) (i .1) (c .loop-test .left) (i .0) _ (i .2)
+returns c = let i = c .before .loop .inv in hear-all _ _ _ _ _ _ (c .before .before .pre .2) (c .before .loop .i) (i .2) (c .loop-test .left) (i .0) _ (i .3)
 
 pub hear-spec : {M : Type 1} → statement M
 hear-spec =

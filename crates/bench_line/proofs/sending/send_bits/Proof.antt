@@ -8,10 +8,10 @@ use Rattle.bench_line.proofs.sending.send_bits.Statement.{statement}
 use Rattle.bench_line.proofs.sending.send_bits.Tie as tie
 
 abbrev Inv-loop : tie.InvT-loop
-Inv-loop counts frames shorts longs lost₀ words₀ active₀ j₀ lost words active j = Sending (lanesOf counts frames shorts longs) lost₀ words₀ lost active j words
+Inv-loop counts frames shorts longs lost₀ words₀ places active₀ j₀ lost words active j = Sending (lanesOf counts frames shorts longs) lost₀ words₀ lost active j words
 
 abbrev μ-loop : tie.MeasureT-loop
-μ-loop counts frames shorts longs lost₀ words₀ active₀ j₀ lost words active j = mostBits - j
+μ-loop counts frames shorts longs lost₀ words₀ places active₀ j₀ lost words active j = mostBits - j
 
 loop-holds : tie.Need-loop-holds Inv-loop μ-loop
 loop-holds c = sending-start _ _ _ (c .before .pre .1) (c .before .pre .2)
@@ -41,7 +41,7 @@ on-line-requires : tie.Need-on-line-requires Inv-loop μ-loop
 on-line-requires c κs = search needs
 
 hear-requires : tie.Need-hear-requires Inv-loop μ-loop
-hear-requires c κs = let b = c .before .before .before .before .before in (search needs, b .before .before .loop .inv .whole)
+hear-requires c κs = let b = c .before .before .before .before .before in (search needs, b .before .before .loop .inv .whole, search needs)
 
 add-j : tie.Need-add-j Inv-loop μ-loop
 add-j c = search needs
