@@ -2,7 +2,7 @@
 -- The lanes of a round as the code keeps them: what each place asks at a bit, and what becomes of it.
 use Prim.Native.Nat.{ℕ, suc, _+_, _/_, _≤_, _<_}
 use mathlib.Core.Path.{_≡_}
-use mathlib.Core.Bool.{Bool, false}
+use mathlib.Core.Bool.{Bool, false, not}
 use mathlib.Core.List.{List, [], _∷_}
 use lib.ListN.{getD}
 use Rattle.bench.specs.Stations.{mostStations, mostStored}
@@ -55,3 +55,8 @@ allAsked active (ask ∷ asks) = takenIn active (allAsked active asks) ask
 -- where each place has lost, once bit j was on the line
 unfoldable pub lostAll : Lanes → List ℕ → Bool → ℕ → Bool → List ℕ
 lostAll l lost active j one = from (λ (i : ℕ). lostBy (j + 1) one (askOf (laneAt l lost j i) active j) (getD lost i 0)) 0 mostStations
+
+-- all places have heard bit j, and this is what they ask at the next one
+pub record Heard (l : Lanes) (lost lost′ : List ℕ) (active : Bool) (j : ℕ) (one : Bool) (next : LineAsk) : Type 0 where
+  pub loses : lost′ ≡ lostAll l lost active j one
+  pub asks : next ≡ allAsked (not active) (asksAt l lost′ (not active) (j + 1))

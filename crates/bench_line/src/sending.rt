@@ -34,14 +34,14 @@ pub(crate) fn send_bits(
 {
     let mut active = false;
     let mut j = 0;
+    let mut asked = lanes::all_ask(counts, frames, shorts, longs, lost, active, j, places);
     while j < MOST_BITS {
-        let asked = lanes::all_ask(counts, frames, shorts, longs, lost, active, j, places);
         if !asked.some {
             return j;
         }
         words[BEFORE_BITS + j] = asked.width;
         let one = lanes::on_line(active, asked.width);
-        lanes::hear(counts, frames, shorts, longs, lost, active, j, one, places);
+        asked = lanes::hear(counts, frames, shorts, longs, lost, active, j, one, places);
         active = !active;
         j += 1;
     }

@@ -22,7 +22,7 @@ sub-i : tie.Need-sub-i Inv-loop μ-loop
 sub-i c = search needs
 
 asks-at-requires : tie.Need-asks-at-requires Inv-loop μ-loop
-asks-at-requires c κs = search needs
+asks-at-requires c κs = (search needs, c .before .before .pre .0)
 
 taken-in-requires : tie.Need-taken-in-requires Inv-loop μ-loop
 taken-in-requires c κs = search needs
