@@ -56,13 +56,14 @@ fn frame_of(station: Station) -> [u8; MOST_SENT]
     frame
 }
 
-// How many bits each station has to send.
-pub(crate) fn counts(row: [Station; MOST_STATIONS]) -> [usize; MOST_STATIONS]
+// How many bits each station has to send. Those from `places` on hold no message.
+pub(crate) fn counts(row: [Station; MOST_STATIONS], places: usize) -> [usize; MOST_STATIONS]
+    requires { ⌜ Holders row places ⌝ }
     ensures { λ r. ⌜ r ≡ map clippedCount row ⌝ }
 {
     let mut all: [usize; MOST_STATIONS] = [0; MOST_STATIONS];
     let mut i = 0;
-    while i < MOST_STATIONS {
+    while i < places {
         let station = row[i];
         all[i] = count_of(station);
         i += 1;
@@ -70,14 +71,18 @@ pub(crate) fn counts(row: [Station; MOST_STATIONS]) -> [usize; MOST_STATIONS]
     all
 }
 
-// The bytes that each station sends.
-pub(crate) fn frames(row: [Station; MOST_STATIONS]) -> [[u8; MOST_SENT]; MOST_STATIONS]
+// The bytes that each station sends. Those from `places` on hold no message, and the check byte of none is 0.
+pub(crate) fn frames(
+    row: [Station; MOST_STATIONS],
+    places: usize,
+) -> [[u8; MOST_SENT]; MOST_STATIONS]
+    requires { ⌜ Holders row places ⌝ }
     ensures { λ r. ⌜ r ≡ map clippedFrame row ⌝ }
 {
     let none: [u8; MOST_SENT] = [0; MOST_SENT];
     let mut all: [[u8; MOST_SENT]; MOST_STATIONS] = [none; MOST_STATIONS];
     let mut i = 0;
-    while i < MOST_STATIONS {
+    while i < places {
         let station = row[i];
         let frame = frame_of(station);
         all[i] = frame;

@@ -30,7 +30,10 @@ send-bits-requires c κs =
     )
 
 verdicts-requires : tie.Need-verdicts-requires
-verdicts-requires c κs = search needs
+verdicts-requires c κs =
+    let l = c .before .before .before .before .before .before .before .before .before .before .before in
+    let a = l .before .before .before .before .before .before in
+    silent (a .args .at) (search needs) _ _ _ _ (l .before .before .before .counts .ensures) (l .before .before .frames .ensures) (l .before .widths .ensures) (l .widths2 .ensures) _ (l .before .before .before .before .places .ensures)
 
 same-length : tie.Need-same-length
 same-length c = search needs
