@@ -4,6 +4,7 @@ use Prim.Native.Nat.{ℕ, _-_, _≤_, _<_}
 use mathlib.Core.Path.{_≡_, refl, ap, ap₂, _∙_}
 use mathlib.Core.Bool.{Bool, true, false, cond, not}
 use mathlib.Core.List.{List, _++_}
+use native.Mathlib.Omega.{arith}
 use lib.Dec.{eqb, ltb}
 use lib.ListN.{length, take, getD, set, replicate, length-set, List·getD-append}
 use lib.Seq.{take-set-lt, take-append-seam}
@@ -20,7 +21,7 @@ use Rattle.bench.specs.Promise.{LoadPromise, WithdrawPromise, ClockPromise}
 use Rattle.bench.specs.Taken.{load-taken, withdraw-taken, clock-taken}
 use Rattle.bench_row.specs.declared.HeldRow.{HeldRow}
 use Rattle.bench_calls.specs.declared.Changed.{Changed}
-use Rattle.bench_row.specs.HeldRows.{heldOf}
+use Rattle.bench_row.specs.HeldRows.{heldOf, putCount}
 use Rattle.bench_calls.specs.Changes.{stationOf, withOf, ChangedBy, callNumber, loadedRow, withdrawnRow, clockedRow}
 use Rattle.bench_lent.specs.Padding.{sound-pad, empty-pad}
 use Rattle.bench_lent.specs.Restoring.{padded, putBack, put-first, put-none}
@@ -28,6 +29,10 @@ use Rattle.bench_lent.specs.Restoring.{padded, putBack, put-first, put-n
 -- ## A row that is not turned away for its size
 
 module _ (row : List Station) (few : length row ≤ mostStations) where
+  -- After a call that is taken every station is put back.
+  pub all-back : putCount (length row) true ≡ length row
+  all-back = omega arith
+
   -- A held row is sound where the row is ..
   pub sound-same : allSound (heldOf row .at) ≡ allSound row
   sound-same = ap allSound (padded row few) ∙ sound-pad (mostStations - length row) row
@@ -46,7 +51,7 @@ module _ (row : List Station) (few : length row ≤ mostStations) where
   put-station : (i : ℕ) → i < length row → (s : Station) → putBack (withOf (heldOf row) i s) true row ≡ set row i s
   unfolding withOf
   put-station i h s =
-      put-first (withOf (heldOf row) i s) row (set row i s) few (length-set row i s)
+      put-first (withOf (heldOf row) i s) row (set row i s) all-back (length-set row i s)
       (take-set-lt (length row) (heldOf row .at) i s h ∙ ap (λ (l : List Station). set l i s) row-first)
 
 -- A row that 38 does not turn away has at most 32 stations.

@@ -26,7 +26,7 @@ use Rattle.bench_row.specs.HeldRows.{heldOf}
 use Rattle.bench_round.specs.Rounds.{roundNumber, numberOn, PlayedBy}
 use Rattle.bench_lent.specs.Padding.{map-append, map-replicate, round-pad, after-pad}
 use Rattle.bench_lent.specs.Restoring.{padded, putBack, put-first, put-none}
-use Rattle.bench_lent.specs.Lent.{same-number}
+use Rattle.bench_lent.specs.Lent.{all-back, same-number}
 
 -- idle places past the row are what the verdicts are filled up with
 verdicts-pad : (fares : List Fared) (k : ℕ) → length fares + k ≡ mostStations → verdictsOf (fares ++ replicate k Idle) ≡ verdictsOf fares
@@ -73,7 +73,7 @@ module _ (row : List Station) (lent : List ℕ) where
     put-round b e =
         let so : b .at ≡ afterFares (roundOf row .fares) row ++ replicate (mostStations - length row) blank =
         e ∙ ap₂ (λ (r : Round) (l : List Station). afterFares (r .fares) l) round-same (padded row few) ∙ after-pad (mostStations - length row) (roundOf row .fares) row fares-length in
-        put-first b row (afterFares (roundOf row .fares) row) few (after-length (roundOf row .fares) row)
+        put-first b row (afterFares (roundOf row .fares) row) (all-back row few) (after-length (roundOf row .fares) row)
         (ap (take (length row)) so ∙ take-at (afterFares (roundOf row .fares) row) (replicate (mostStations - length row) blank) (length row) (after-length (roundOf row .fares) row))
 
   -- A round that is played on the held row of a lent one keeps the promise for the row.

@@ -118,10 +118,9 @@ same-list l n e = ap (from (λ (i : ℕ). getD l i blank) 0) (sym e) ∙ from-li
     ident (s ∷ l) = ap (λ (r : List Station). s ∷ r) (ident l)
 
 -- A held row whose first places are a row of the same length is put back as that row ..
-pub put-first : (b : HeldRow) (row new : List Station) → length row ≤ mostStations → length new ≡ length row → take (length row) (b .at) ≡ new → putBack b true row ≡ new
+pub put-first : (b : HeldRow) (row new : List Station) → putCount (length row) true ≡ length row → length new ≡ length row → take (length row) (b .at) ≡ new → putBack b true row ≡ new
 unfolding putBack
-put-first b row new few n e =
-    let all : putCount (length row) true ≡ length row = omega arith in
+put-first b row new all n e =
     ap (filled (λ (i : ℕ). getD (b .at) i (getD row i blank)) row) all
     ∙ fill-all (λ (i : ℕ). getD (b .at) i (getD row i blank)) row (length row) (length row) refl (omega arith) (omega arith)
     ∙ from-same (λ (i : ℕ). getD (b .at) i (getD row i blank)) (λ (i : ℕ). getD new i blank) 0 (length row)
