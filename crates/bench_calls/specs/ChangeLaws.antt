@@ -24,7 +24,7 @@ use Rattle.bench.specs.Taken.{within}
 use Rattle.bench_row.specs.declared.HeldRow.{HeldRow}
 use Rattle.bench_calls.specs.declared.Changed.{Changed}
 use Rattle.loops.specs.Scan.{getD-any}
-use Rattle.bench_calls.specs.Changes.{stationOf, ChangedBy, doneWith, rowNumber, loadAtNumber, loadedRow, withdrawAtNumber, withdrawnRow, clockAtNumber, clockedRow}
+use Rattle.bench_calls.specs.Changes.{stationOf, ChangedBy, doneWith, awayWith, rowNumber, loadAtNumber, loadedRow, withdrawAtNumber, withdrawnRow, clockAtNumber, clockedRow}
 
 -- The first rules answered: done says whether they turned nothing away.
 module _ (b : HeldRow) (i : ℕ) (called : Called) (p : calledNumber called ≡ rowNumber b i) (done : Bool) (q : done ≡ eqb (calledNumber called) 0) where
@@ -50,22 +50,22 @@ module _ (b : HeldRow) (i : ℕ) (called : Called) (p : calledNumber called ≡ 
 
   -- .. or the first ones did.
   pub stops : done ≡ false → (later : List Rule) (next : HeldRow)
-      → ChangedBy b (firstRule (placeRules (b .count) (allSound (b .at)) i ++ later)) next (record { held = b; called = called })
+      → ChangedBy b (firstRule (placeRules (b .count) (allSound (b .at)) i ++ later)) next (awayWith b called)
   stops e later next =
-      subst (λ (n : ℕ). ChangedBy b n next (record { held = b; called = called })) (sym (two later))
-      (record { says = rw (first ∙ e) p; leaves = rw (first ∙ e, first ∙ e) })
+      subst (λ (n : ℕ). ChangedBy b n next (awayWith b called)) (sym (two later))
+      (record { says = rw (first ∙ e) p; leaves = rw (first ∙ e, first ∙ e); takes = rw (first ∙ e, first ∙ e) })
 
 -- ## The rules of each call, at a place that there is
 
 -- 37
-pub load-bad : (b : HeldRow) (i : ℕ) (m : List ℕ) → badMessage m .says ≡ true → ChangedBy b (loadAtNumber b i m) (loadedRow b i m) (record { held = b; called = BadMessage })
+pub load-bad : (b : HeldRow) (i : ℕ) (m : List ℕ) → badMessage m .says ≡ true → ChangedBy b (loadAtNumber b i m) (loadedRow b i m) (awayWith b BadMessage)
 unfolding loadAtNumber
-load-bad b i m e = rw e (record { says = refl; leaves = refl })
+load-bad b i m e = rw e (record { says = refl; leaves = refl; takes = refl })
 
 -- 36
-pub clock-bad : (b : HeldRow) (i : ℕ) (c : Clock) → goodOf c ≡ false → ChangedBy b (clockAtNumber c) (clockedRow b i c) (record { held = b; called = BadClock })
+pub clock-bad : (b : HeldRow) (i : ℕ) (c : Clock) → goodOf c ≡ false → ChangedBy b (clockAtNumber c) (clockedRow b i c) (awayWith b BadClock)
 unfolding clockAtNumber
-clock-bad b i c e = rw e (record { says = refl; leaves = refl })
+clock-bad b i c e = rw e (record { says = refl; leaves = refl; takes = refl })
 
 -- The station is read at the place, whatever stands past the end.
 module _ (b : HeldRow) (i : ℕ) (d : Station) (h : i < length (b .at)) where
@@ -74,26 +74,26 @@ module _ (b : HeldRow) (i : ℕ) (d : Station) (h : i < length (b .at)) where
 
   module _ (m : List ℕ) (e : badMessage m .says ≡ false) where
     -- 41
-    pub load-holding : 0 < getD (b .at) i d .len → ChangedBy b (loadAtNumber b i m) (loadedRow b i m) (record { held = b; called = Holding })
+    pub load-holding : 0 < getD (b .at) i d .len → ChangedBy b (loadAtNumber b i m) (loadedRow b i m) (awayWith b Holding)
     unfolding loadAtNumber
-    load-holding k = rw (e, ← there, ne-eqb (getD (b .at) i d .len) 0 (λ z. omega arith)) (record { says = refl; leaves = refl })
+    load-holding k = rw (e, ← there, ne-eqb (getD (b .at) i d .len) 0 (λ z. omega arith)) (record { says = refl; leaves = refl; takes = refl })
 
     -- loaded
     pub load-done : getD (b .at) i d .len ≤ 0 → (s : Station) → s ≡ loaded m (getD (b .at) i d) → (r : Changed) → r ≡ doneWith b i s → ChangedBy b (loadAtNumber b i m) (loadedRow b i m) r
     unfolding loadAtNumber
-    load-done k s p r q = rw (e, ← there, eq-eqb (getD (b .at) i d .len) 0 (omega arith), q, p) (record { says = refl; leaves = refl })
+    load-done k s p r q = rw (e, ← there, eq-eqb (getD (b .at) i d .len) 0 (omega arith), q, p) (record { says = refl; leaves = refl; takes = refl })
 
   -- 42
-  pub withdraw-nothing : getD (b .at) i d .len ≡ 0 → ChangedBy b (withdrawAtNumber b i) (withdrawnRow b i) (record { held = b; called = NothingWaiting })
+  pub withdraw-nothing : getD (b .at) i d .len ≡ 0 → ChangedBy b (withdrawAtNumber b i) (withdrawnRow b i) (awayWith b NothingWaiting)
   unfolding withdrawAtNumber
-  withdraw-nothing k = rw (← there, eq-eqb (getD (b .at) i d .len) 0 k) (record { says = refl; leaves = refl })
+  withdraw-nothing k = rw (← there, eq-eqb (getD (b .at) i d .len) 0 k) (record { says = refl; leaves = refl; takes = refl })
 
   -- withdrawn
   pub withdraw-done : (getD (b .at) i d .len ≡ 0 → ⊥) → (s : Station) → s ≡ emptied (getD (b .at) i d) → (r : Changed) → r ≡ doneWith b i s → ChangedBy b (withdrawAtNumber b i) (withdrawnRow b i) r
   unfolding withdrawAtNumber
-  withdraw-done k s p r q = rw (← there, ne-eqb (getD (b .at) i d .len) 0 k, q, p) (record { says = refl; leaves = refl })
+  withdraw-done k s p r q = rw (← there, ne-eqb (getD (b .at) i d .len) 0 k, q, p) (record { says = refl; leaves = refl; takes = refl })
 
   -- the clock is set
   pub clock-done : (c : Clock) → goodOf c ≡ true → (s : Station) → s ≡ clocked c (getD (b .at) i d) → (r : Changed) → r ≡ doneWith b i s → ChangedBy b (clockAtNumber c) (clockedRow b i c) r
   unfolding clockAtNumber
-  clock-done c e s p r q = rw (e, ← there, q, p) (record { says = refl; leaves = refl })
+  clock-done c e s p r q = rw (e, ← there, q, p) (record { says = refl; leaves = refl; takes = refl })

@@ -3,6 +3,7 @@
 -- exactly when its rule holds, with the held row as it was.
 use Prim.Native.Nat.{ℕ, _<_}
 use mathlib.Core.Path.{_≡_, sym, ap, _∙_}
+use mathlib.Core.Bool.{Bool}
 use native.Mathlib.Omega.{arith}
 use borrow.Author.Tests.{ne-eqb}
 use Rattle.laws.specs.Settled.{settled}
@@ -19,15 +20,16 @@ use Rattle.bench_calls.specs.Changes.{ChangedBy, callNumber}
 
 -- ## One answer, one held row
 
--- what a call comes to, of its two parts
-abbrev changed : HeldRow → Called → Changed
-changed b c = record { held = b; called = c }
+-- what a call comes to, of its three parts
+abbrev changed : HeldRow → Called → Bool → Changed
+changed b c t = record { held = b; called = c; taken = t }
 
 -- No second answer, and no other held row, meets the promise of a call.
 pub changed-settled : {b next : HeldRow} {n : ℕ} {r s : Changed} → ChangedBy b n next r → ChangedBy b n next s → r ≡ s
 changed-settled {r = r} {s = s} p q =
-    ap (λ (x : HeldRow). changed x (r .called)) (settled (p .leaves) (q .leaves))
-    ∙ ap (λ (x : Called). changed (s .held) x) (called-once (r .called) (s .called) (settled (p .says) (q .says)))
+    ap (λ (x : HeldRow). changed x (r .called) (r .taken)) (settled (p .leaves) (q .leaves))
+    ∙ ap (λ (x : Called). changed (s .held) x (r .taken)) (called-once (r .called) (s .called) (settled (p .says) (q .says)))
+    ∙ ap (changed (s .held) (s .called)) (settled (p .takes) (q .takes))
 
 -- ## The refusals
 

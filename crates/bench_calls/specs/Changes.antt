@@ -2,13 +2,14 @@
 -- The calls at a place of a row by value: the number of the first rule that turns the call away, and the held row after it.
 use Prim.Native.Nat.{ℕ}
 use mathlib.Core.Path.{_≡_}
-use mathlib.Core.Bool.{cond}
+use mathlib.Core.Bool.{true, false, cond}
 use mathlib.Core.List.{List}
 use lib.Dec.{eqb}
 use lib.ListN.{getD, set}
 use Rattle.laws.specs.Rules.{firstRule}
 use Rattle.symbol.specs.declared.Clock.{Clock}
 use Rattle.bench.specs.declared.Station.{Station}
+use Rattle.bench.specs.declared.Called.{Called}
 use Rattle.bench.specs.declared.Called.the-variants.{Done}
 use Rattle.bench.specs.Stations.{blank}
 use Rattle.bench.specs.Round.{emptied}
@@ -25,14 +26,19 @@ stationOf b i = getD (b .at) i blank
 unfoldable pub withOf : HeldRow → ℕ → Station → HeldRow
 withOf b i s = record { at = set (b .at) i s; count = b .count }
 
--- What a call comes to: its number, and the next held row where that is 0.
+-- What a call comes to: its number, the next held row where that is 0, and whether it was taken.
 pub record ChangedBy (b : HeldRow) (number : ℕ) (next : HeldRow) (r : Changed) : Type 0 where
   pub says : calledNumber (r .called) ≡ number
   pub leaves : r .held ≡ cond (eqb number 0) next b
+  pub takes : r .taken ≡ eqb number 0
 
 -- a call that is taken: another station at a place
 abbrev pub doneWith : HeldRow → ℕ → Station → Changed
-doneWith b i s = record { held = withOf b i s; called = Done }
+doneWith b i s = record { held = withOf b i s; called = Done; taken = true }
+
+-- a call that is turned away: the held row as it was
+abbrev pub awayWith : HeldRow → Called → Changed
+awayWith b called = record { held = b; called = called; taken = false }
 
 -- the number of the first rule that turns a call away
 abbrev pub callNumber : Call → HeldRow → ℕ

@@ -9,7 +9,7 @@ ghost use Rattle.bench.specs.Stations.{mostStations, mostStored};
 ghost use Rattle.bench.specs.Calls as Calls;
 ghost use Rattle.bench.specs.Calls.{clocked};
 ghost use Rattle.bench.specs.Promise.{calledNumber};
-ghost use Rattle.bench_calls.specs.Changes.{withOf, callNumber, rowNumber, doneWith, ChangedBy, loadAtNumber, loadedRow, withdrawAtNumber, withdrawnRow, clockAtNumber, clockedRow};
+ghost use Rattle.bench_calls.specs.Changes.{withOf, callNumber, rowNumber, doneWith, awayWith, ChangedBy, loadAtNumber, loadedRow, withdrawAtNumber, withdrawnRow, clockAtNumber, clockedRow};
 use bench::Called;
 use bench::MOST_STATIONS;
 use bench::MOST_STORED;
@@ -17,10 +17,11 @@ use bench::Station;
 use bench_row::HeldRow;
 use symbol::Clock;
 
-// What a call answers, and the held row after it.
+// What a call answers, the held row after it, and whether the call was taken: where it was not, nothing is put back.
 pub struct Changed {
     pub held: HeldRow,
     pub called: Called,
+    pub taken: bool,
 }
 
 // What every call at a place is turned away for first: the row's size, an unsound station in it, no station there.
@@ -51,6 +52,17 @@ fn is_done(called: Called) -> bool
     }
 }
 
+// A call that is turned away: the held row as it was.
+fn away(held: HeldRow, called: Called) -> Changed
+    ensures { λ r. ⌜ r ≡ awayWith held called ⌝ }
+{
+    Changed {
+        held,
+        called,
+        taken: false,
+    }
+}
+
 // ## Loading
 
 // Loads a message at a place.
@@ -61,7 +73,7 @@ pub fn load_on(held: HeldRow, place: usize, message: &[u8]) -> Changed
     if is_done(called) {
         return load_at(held, place, message);
     }
-    Changed { held, called }
+    away(held, called)
 }
 
 // The same at a place that there is.
@@ -73,16 +85,10 @@ fn load_at(held: HeldRow, place: usize, message: &[u8]) -> Changed
     let bad = bad_message(message.len());
     let holding = 0 < station.len;
     if bad {
-        return Changed {
-            held,
-            called: Called::BadMessage,
-        };
+        return away(held, Called::BadMessage);
     }
     if holding {
-        return Changed {
-            held,
-            called: Called::Holding,
-        };
+        return away(held, Called::Holding);
     }
     let next = loaded(station, message);
     taken(held, place, next)
@@ -129,6 +135,7 @@ fn taken(held: HeldRow, place: usize, station: Station) -> Changed
     Changed {
         held: next,
         called: Called::Done,
+        taken: true,
     }
 }
 
@@ -153,7 +160,7 @@ pub fn withdraw_on(held: HeldRow, place: usize) -> Changed
     if is_done(called) {
         return withdraw_at(held, place);
     }
-    Changed { held, called }
+    away(held, called)
 }
 
 // The same at a place that there is.
@@ -163,10 +170,7 @@ fn withdraw_at(held: HeldRow, place: usize) -> Changed
 {
     let station = held.at[place];
     if station.len == 0 {
-        return Changed {
-            held,
-            called: Called::NothingWaiting,
-        };
+        return away(held, Called::NothingWaiting);
     }
     let next = bench_row::empty(station);
     taken(held, place, next)
@@ -182,7 +186,7 @@ pub fn set_clock_on(held: HeldRow, place: usize, clock: Clock) -> Changed
     if is_done(called) {
         return set_clock_at(held, place, clock);
     }
-    Changed { held, called }
+    away(held, called)
 }
 
 // The same at a place that there is.
@@ -195,10 +199,7 @@ fn set_clock_at(held: HeldRow, place: usize, clock: Clock) -> Changed
         let next = with_clock(station, clock);
         return taken(held, place, next);
     }
-    Changed {
-        held,
-        called: Called::BadClock,
-    }
+    away(held, Called::BadClock)
 }
 
 // A station with another clock.

@@ -25,8 +25,8 @@ use Rattle.bench_round.specs.declared.Played.{Played}
 use Rattle.bench_row.specs.HeldRows.{heldOf}
 use Rattle.bench_round.specs.Rounds.{roundNumber, numberOn, PlayedBy}
 use Rattle.bench_lent.specs.Padding.{map-append, map-replicate, round-pad, after-pad}
-use Rattle.bench_lent.specs.Restoring.{padded, putBack, put-first, put-same}
-use Rattle.bench_lent.specs.Lent.{same-number}
+use Rattle.bench_lent.specs.Restoring.{padded, putBack, put-first, put-none}
+use Rattle.bench_lent.specs.Lent.{all-back, same-number}
 
 -- idle places past the row are what the verdicts are filled up with
 verdicts-pad : (fares : List Fared) (k : ℕ) → length fares + k ≡ mostStations → verdictsOf (fares ++ replicate k Idle) ≡ verdictsOf fares
@@ -68,18 +68,18 @@ module _ (row : List Station) (lent : List ℕ) where
         ∙ ap (λ (vs : List Verdict). let s : RoundSaid = record { number = 0; verdicts = vs; words = length (roundOf row .words); lineTime = roundOf row .lineTime } in s)
         (verdicts-pad (roundOf row .fares) (mostStations - length row) (omega (arith, fares-length)))
 
-    put-round : (b : HeldRow) → b .at ≡ afterFares (roundOf (heldOf row .at) .fares) (heldOf row .at) → putBack b row ≡ afterFares (roundOf row .fares) row
+    put-round : (b : HeldRow) → b .at ≡ afterFares (roundOf (heldOf row .at) .fares) (heldOf row .at) → putBack b true row ≡ afterFares (roundOf row .fares) row
     unfolding left
     put-round b e =
         let so : b .at ≡ afterFares (roundOf row .fares) row ++ replicate (mostStations - length row) blank =
         e ∙ ap₂ (λ (r : Round) (l : List Station). afterFares (r .fares) l) round-same (padded row few) ∙ after-pad (mostStations - length row) (roundOf row .fares) row fares-length in
-        put-first b row (afterFares (roundOf row .fares) row) (after-length (roundOf row .fares) row)
+        put-first b row (afterFares (roundOf row .fares) row) (all-back row few) (after-length (roundOf row .fares) row)
         (ap (take (length row)) so ∙ take-at (afterFares (roundOf row .fares) row) (replicate (mostStations - length row) blank) (length row) (after-length (roundOf row .fares) row))
 
   -- A round that is played on the held row of a lent one keeps the promise for the row.
-  pub round-kept : (lent′ : List ℕ) (r : Played) → PlayedBy (heldOf row) lent lent′ r → RoundPromise row (putBack (r .held) row) lent lent′ (r .answer)
+  pub round-kept : (lent′ : List ℕ) (r : Played) → PlayedBy (heldOf row) lent lent′ r → RoundPromise row (putBack (r .held) (r .taken) row) lent lent′ (r .answer)
   unfolding roundSays after taken done lentAfter
-  round-kept lent′ r c = go (eqb (numberOf (round lent) row) 0) refl (c .says ∙ ap says rules) (c .leaves ∙ ap leaves rules) (c .lends ∙ ap lends rules)
+  round-kept lent′ r c = go (eqb (numberOf (round lent) row) 0) refl (c .says ∙ ap says rules) (c .leaves ∙ ap leaves rules) (c .lends ∙ ap lends rules) (c .takes ∙ ap takes rules)
     where
       now : List Station
       now = heldOf row .at
@@ -93,21 +93,25 @@ module _ (row : List Station) (lent : List ℕ) where
       lends : ℕ → List ℕ
       lends n = cond (eqb n 0) (written (roundOf now .words) lent) lent
 
+      takes : ℕ → Bool
+      takes n = eqb n 0
+
       go : (t : Bool) → eqb (numberOf (round lent) row) 0 ≡ t
           → said (r .answer) ≡ cond t (played (roundOf now)) (turnedAway (numberOf (round lent) row))
           → r .held ≡ cond t (record { at = afterFares (roundOf now .fares) now; count = heldOf row .count }) (heldOf row)
           → lent′ ≡ cond t (written (roundOf now .words) lent) lent
-          → RoundPromise row (putBack (r .held) row) lent lent′ (r .answer)
-      go true e p q s =
+          → r .taken ≡ eqb (numberOf (round lent) row) 0
+          → RoundPromise row (putBack (r .held) (r .taken) row) lent lent′ (r .answer)
+      go true e p q s y =
           let k = round-taken lent row e .passed in
           record {
             says-it = rw e (p ∙ played-same (k .few) (k .sound));
-            leaves-it = rw e (put-round (k .few) (k .sound) (r .held) (ap (λ (b : HeldRow). b .at) q));
+            leaves-it = rw e (ap (λ (z : Bool). putBack (r .held) z row) (y ∙ e) ∙ put-round (k .few) (k .sound) (r .held) (ap (λ (b : HeldRow). b .at) q));
             lends-it = rw e (s ∙ ap (λ (x : Round). written (x .words) lent) (round-same (k .few) (k .sound)));
           }
-      go false e p q s =
+      go false e p q s y =
           record {
             says-it = rw e p;
-            leaves-it = rw e (ap (λ (b : HeldRow). putBack b row) q ∙ put-same row);
+            leaves-it = rw e (ap (λ (z : Bool). putBack (r .held) z row) (y ∙ e) ∙ put-none (r .held) row);
             lends-it = rw e s;
           }

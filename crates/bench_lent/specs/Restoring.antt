@@ -2,18 +2,19 @@
 -- A lent row becomes a held row, and a held row goes back into the lent row.
 use Prim.Native.Nat.{ℕ, zero, suc, _+_, _-_, _≤_, _<_, min}
 use mathlib.Core.Path.{_≡_, refl, sym, ap, _∙_}
+use mathlib.Core.Bool.{Bool, true, false}
 use mathlib.Core.Logic.{_⊎_, inl, inr}
 use mathlib.Core.List.{List, [], _∷_, _++_, map}
 use native.Mathlib.Omega.{arith}
-use lib.ListN.{length, take, getD, set, replicate, length-append, length-replicate, length-take, List·getD-append, List·getD-eq-default}
+use lib.ListN.{length, take, getD, set, replicate, length-append, length-replicate, length-take}
 use lib.Seq.{getD-take, take-suc, take-length, take-append-le, take-all, take-set-lt, length-take-le, set-at, set-out, append-snoc}
 use native.Mathlib.Numerals.{add-one}
 use Rattle.laws.specs.Tests.{upTo}
 use Rattle.bench.specs.declared.Station.{Station}
 use Rattle.bench.specs.Stations.{mostStations, blank}
 use Rattle.bench_row.specs.declared.HeldRow.{HeldRow}
-use Rattle.loops.specs.Scan.{from, from-same, from-length, from-list, getD-any}
-use Rattle.bench_row.specs.HeldRows.{heldOf}
+use Rattle.loops.specs.Scan.{from, from-same, from-list, getD-any, filled, fill-start, fill-length, fill-all}
+use Rattle.bench_row.specs.HeldRows.{heldOf, putCount}
 
 -- ## Gathering
 
@@ -85,11 +86,6 @@ pub gather-length : (row : List Station) (i : ℕ) → length (gathered row i) �
 unfolding gathered
 gather-length row i = omega (arith, length-take mostStations (take i row ++ replicate mostStations blank), length-append (take i row) (replicate mostStations blank), length-replicate mostStations blank)
 
--- the places of a held row
-pub held-places : (row : List Station) → length (heldOf row .at) ≡ mostStations
-unfolding heldOf
-held-places row = omega (arith, length-take mostStations (row ++ replicate mostStations blank), length-append row (replicate mostStations blank), length-replicate mostStations blank)
-
 -- a row of at most 32, and what is blank past it
 pub padded : (row : List Station) → length row ≤ mostStations → heldOf row .at ≡ row ++ replicate (mostStations - length row) blank
 unfolding heldOf
@@ -100,14 +96,19 @@ padded row h =
 
 -- ## Putting back
 
--- the row with the stations of a held row in its places
-unfoldable pub putBack : HeldRow → List Station → List Station
-putBack b row = from (λ (i : ℕ). getD (b .at) i (getD row i blank)) 0 (length row)
+-- the row with the stations of a held row in its places, and as it was where the call was turned away
+unfoldable pub putBack : HeldRow → Bool → List Station → List Station
+putBack b taken row = filled (λ (i : ℕ). getD (b .at) i (getD row i blank)) row (putCount (length row) taken)
+
+-- No more are put back than there are.
+pub put-few : (n : ℕ) (taken : Bool) → putCount n taken ≤ n
+put-few n true = omega arith
+put-few n false = omega arith
 
 -- As many stations as there were.
-pub put-length : (b : HeldRow) (row : List Station) → length (putBack b row) ≡ length row
+pub put-length : (b : HeldRow) (taken : Bool) (row : List Station) → length (putBack b taken row) ≡ length row
 unfolding putBack
-put-length b row = from-length (λ (i : ℕ). getD (b .at) i (getD row i blank)) 0 (length row)
+put-length b taken row = fill-length (λ (i : ℕ). getD (b .at) i (getD row i blank)) row (putCount (length row) taken) (put-few (length row) taken)
 
 same-list : (l : List Station) (n : ℕ) → length l ≡ n → from (λ (i : ℕ). getD l i blank) 0 n ≡ l
 same-list l n e = ap (from (λ (i : ℕ). getD l i blank) 0) (sym e) ∙ from-list (λ (s : Station). s) l blank ∙ ident l
@@ -116,26 +117,19 @@ same-list l n e = ap (from (λ (i : ℕ). getD l i blank) 0) (sym e) ∙ from-li
     ident [] = refl
     ident (s ∷ l) = ap (λ (r : List Station). s ∷ r) (ident l)
 
--- A held row whose first places are a row of the same length is put back as that row.
-pub put-first : (b : HeldRow) (row new : List Station) → length new ≡ length row → take (length row) (b .at) ≡ new → putBack b row ≡ new
+-- A held row whose first places are a row of the same length is put back as that row ..
+pub put-first : (b : HeldRow) (row new : List Station) → putCount (length row) true ≡ length row → length new ≡ length row → take (length row) (b .at) ≡ new → putBack b true row ≡ new
 unfolding putBack
-put-first b row new n e =
-    from-same (λ (i : ℕ). getD (b .at) i (getD row i blank)) (λ (i : ℕ). getD new i blank) 0 (length row)
+put-first b row new all n e =
+    ap (filled (λ (i : ℕ). getD (b .at) i (getD row i blank)) row) all
+    ∙ fill-all (λ (i : ℕ). getD (b .at) i (getD row i blank)) row (length row) (length row) refl (omega arith) (omega arith)
+    ∙ from-same (λ (i : ℕ). getD (b .at) i (getD row i blank)) (λ (i : ℕ). getD new i blank) 0 (length row)
     (λ i lo hi.
     sym (getD-take (length row) (b .at) i (getD row i blank) (omega (arith, hi))) ∙ ap (λ (l : List Station). getD l i (getD row i blank)) e
     ∙ getD-any new i (getD row i blank) blank (omega (arith, hi)))
     ∙ same-list new (length row) n
 
--- A row's own held row changes nothing, however long the row is.
-pub put-same : (row : List Station) → putBack (heldOf row) row ≡ row
-unfolding putBack heldOf
-put-same row =
-    from-same (λ (i : ℕ). getD (heldOf row .at) i (getD row i blank)) (λ (i : ℕ). getD row i blank) 0 (length row) (λ i lo hi. go i (omega (arith, hi)) (upTo mostStations i))
-    ∙ same-list row (length row) refl
-  where
-    go : (i : ℕ) → i < length row → (mostStations ≤ i) ⊎ (i < mostStations) → getD (heldOf row .at) i (getD row i blank) ≡ getD row i blank
-    go i h (inl k) = List·getD-eq-default (heldOf row .at) (getD row i blank) (omega (arith, held-places row))
-    go i h (inr k) =
-        getD-take mostStations (row ++ replicate mostStations blank) i (getD row i blank) k
-        ∙ List·getD-append row (replicate mostStations blank) (getD row i blank) i h
-        ∙ getD-any row i (getD row i blank) blank h
+-- .. and after a call that was turned away every station is as it was, however long the row is.
+pub put-none : (b : HeldRow) (row : List Station) → putBack b false row ≡ row
+unfolding putBack
+put-none b row = sym (fill-start (λ (i : ℕ). getD (b .at) i (getD row i blank)) row)

@@ -1,5 +1,5 @@
 // The calls on a lent row of stations, as document 01 names them. Each gathers the row into a held row, works on the held row by
-// value, and puts it back.
+// value, and puts it back where the call was taken.
 ghost use mathlib.Core.Path.{_≡_};
 ghost use Rattle.bench.specs.Promise.{LoadPromise, WithdrawPromise, ClockPromise, RoundPromise};
 ghost use Rattle.bench_row.specs.HeldRows.{heldOf};
@@ -25,16 +25,17 @@ pub fn gathered(row: &[Station]) -> HeldRow
     bench_row::held_of(at, row.len())
 }
 
-// The row with the stations of a held row in its places.
-pub fn put_back(row: &mut [Station], held: HeldRow)
-    ensures { λ _. ⌜ now (row .exit) ≡ putBack held (now (row .entry)) ⌝ }
+// The row with the stations of a held row in its places. After a call that was turned away nothing is stored.
+pub fn put_back(row: &mut [Station], held: HeldRow, taken: bool)
+    ensures { λ _. ⌜ now (row .exit) ≡ putBack held taken (now (row .entry)) ⌝ }
 {
-    let mut i = 0;
-    while i < row.len() {
-        let station = row[i];
-        let next = bench_row::station_at(held, i, station);
-        row[i] = next;
-        i += 1;
+    let n = bench_row::put_count(row.len(), taken);
+    let mut place = 0;
+    while place < n {
+        let station = row[place];
+        let next = bench_row::station_at(held, place, station);
+        row[place] = next;
+        place += 1;
     }
 }
 
@@ -44,7 +45,7 @@ pub fn load(row: &mut [Station], place: usize, message: &[u8]) -> Called
 {
     let held = gathered(row);
     let changed = bench_calls::load_on(held, place, message);
-    put_back(row, changed.held);
+    put_back(row, changed.held, changed.taken);
     changed.called
 }
 
@@ -54,7 +55,7 @@ pub fn withdraw(row: &mut [Station], place: usize) -> Called
 {
     let held = gathered(row);
     let changed = bench_calls::withdraw_on(held, place);
-    put_back(row, changed.held);
+    put_back(row, changed.held, changed.taken);
     changed.called
 }
 
@@ -64,7 +65,7 @@ pub fn set_clock(row: &mut [Station], place: usize, clock: Clock) -> Called
 {
     let held = gathered(row);
     let changed = bench_calls::set_clock_on(held, place, clock);
-    put_back(row, changed.held);
+    put_back(row, changed.held, changed.taken);
     changed.called
 }
 
@@ -74,6 +75,6 @@ pub fn round(row: &mut [Station], words: &mut [u32]) -> RoundAnswer
 {
     let held = gathered(row);
     let played = bench_round::round_on(held, words);
-    put_back(row, played.held);
+    put_back(row, played.held, played.taken);
     played.answer
 }

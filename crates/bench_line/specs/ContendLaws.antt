@@ -6,7 +6,7 @@ use mathlib.Core.Bool.{Bool, true, false, cond, not}
 use mathlib.Core.List.{List, [], _∷_, map}
 use native.Mathlib.Omega.{arith}
 use lib.Dec.{leb}
-use lib.ListN.{length, replicate}
+use lib.ListN.{length, getD, replicate}
 use lib.Seq.{sets}
 use borrow.Author.Tests.{leb-true, le-ltb, lt-ltb}
 use Rattle.laws.specs.Settled.{settled}
@@ -15,17 +15,18 @@ use Rattle.symbol.specs.Clocks.{goodOf}
 use Rattle.frame.specs.Writing.{mostWords}
 use Rattle.bench.specs.declared.Station.{Station}
 use Rattle.bench.specs.declared.Verdict.{Verdict}
-use Rattle.bench.specs.Stations.{mostStations, mostStored, sound}
+use Rattle.bench.specs.Stations.{mostStations, mostStored, sound, blank}
 use Rattle.bench.specs.Course.{Seat, Course, asked, widthsOf, lasts, onLine, heard, nobodyAsks, mostBits, over, bitThen, play, faredAt}
 use Rattle.bench.specs.Round.{entryOf, seatOf, verdictOf}
 use Rattle.bench.specs.Calls.{allSound}
 use Rattle.bench_line.specs.declared.Contended.{Contended}
-use Rattle.bench_line.specs.Lanes.{Lanes, lanesOf}
+use Rattle.bench_line.specs.Lanes.{Lanes, Silent, lanesOf}
 use Rattle.bench_line.specs.Seats.{LanesOk}
 use Rattle.bench_line.specs.Sending.{courseOf, SendsBits}
-use Rattle.bench_line.specs.Entries.{widthOf, clippedCount, clippedFrame, lanesIn, verdictsAt}
+use Rattle.bench_line.specs.Entries.{Holders, widthOf, clippedCount, clippedFrame, lanesIn, verdictsAt}
+use Rattle.bench_line.specs.EntryLaws.{count-none}
 use Rattle.bench_line.specs.Stated.{clipped}
-use Rattle.bench_line.specs.Starting.{start-ok, start-seats}
+use Rattle.bench_line.specs.Starting.{at-map, start-ok, start-seats}
 use Rattle.bench_line.specs.Contending.{courseOn, courseLent, ContendedIn, ContendedBy, nobodySent}
 
 -- No second answer and no other words are what contending comes to.
@@ -92,6 +93,14 @@ module _ (row : List Station) (n : length row ≡ mostStations) (counts : List �
   -- They are as the loop over the bits asks them to be ..
   pub ready : LanesOk (lanesOf counts frames shorts longs)
   ready = subst LanesOk (sym arrays) (start-ok row n)
+
+  -- .. past the last holder nobody has a bit to send ..
+  pub silent : (places : ℕ) → Holders row places → Silent counts places
+  silent places s =
+      record {
+        few = s .few;
+        none = λ i lo hi. ap (λ (x : List ℕ). getD x i 0) a ∙ at-map clippedCount row i 0 (omega arith) ∙ sym (count-none (getD row i blank) (s .none i lo hi));
+      }
 
   same : courseOf (lanesIn row) (replicate mostStations 0) ≡ courseOn (map clipped row)
   unfolding courseOn

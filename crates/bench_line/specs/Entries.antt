@@ -1,17 +1,23 @@
 -- Laws.
 -- What the stations bring to a round, as the code keeps it.
-use Prim.Native.Nat.{ℕ, _*_, _-_}
+use Prim.Native.Nat.{ℕ, _*_, _-_, _≤_, _<_}
+use mathlib.Core.Path.{_≡_}
 use mathlib.Core.Bool.{Bool, true, false, cond}
 use mathlib.Core.List.{List, _++_, map}
-use lib.ListN.{length, replicate}
+use lib.ListN.{length, getD, replicate}
 use Rattle.checkbyte.specs.Register.{withCheck}
 use Rattle.bench.specs.declared.Station.{Station}
 use Rattle.bench.specs.declared.Verdict.{Verdict}
-use Rattle.bench.specs.Stations.{mostStored, stored, empty}
+use Rattle.bench.specs.Stations.{mostStations, mostStored, stored, empty, blank}
 use Rattle.bench.specs.Round.{verdictOf}
 use Rattle.bench_line.specs.Lanes.{Lanes, lanesOf}
 use Rattle.bench_line.specs.Seats.{faresAt}
 use Rattle.bench_line.specs.Stated.{clipped}
+
+-- from place n on no station holds a message
+pub record Holders (row : List Station) (n : ℕ) : Type 0 where
+  pub few : n ≤ mostStations
+  pub none : (i : ℕ) → n ≤ i → i < mostStations → getD row i blank .len ≡ 0
 
 -- how many bits a station has to send, with those of its check byte: none where it is empty
 unfoldable pub countOf : Station → ℕ

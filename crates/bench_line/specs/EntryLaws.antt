@@ -2,21 +2,43 @@
 -- Laws of the loops over the stations of a row: an array that has something of each station, and what one station brings.
 use Prim.Native.Nat.{ℕ, zero, suc, _+_, _*_, _-_, _≤_, _<_, min}
 use mathlib.Core.Path.{_≡_, refl, sym, subst, ap, ap₂, _∙_}
+use mathlib.Core.Logic.{_⊎_, inl, inr}
 use mathlib.Core.List.{List, [], _∷_, _++_, map, append-assoc}
 use native.Mathlib.Omega.{arith}
-use lib.ListN.{length, take, drop, getD, set, replicate, length-append}
+use lib.ListN.{length, take, drop, getD, set, replicate, length-append, length-replicate, getD-replicate}
 use lib.Seq.{length-take-le, take-all, set-at}
 use borrow.Author.Tests.{eq-eqb, ne-eqb}
-use Rattle.checkbyte.specs.Register.{checkOf}
+use Rattle.laws.specs.Tests.{upTo}
+use Rattle.checkbyte.specs.Register.{registerFrom, checkOf}
 use Rattle.bench.specs.declared.Station.{Station}
+use Rattle.bench.specs.declared.Fared.the-variants.{Idle}
 use Rattle.bench.specs.declared.Verdict.{Verdict}
 use Rattle.bench.specs.Stations.{mostStations, mostStored, stored, blank}
 use Rattle.bench.specs.Round.{verdictOf}
 use Rattle.loops.specs.Scan.{from, map-from, from-list, getD-any, filled, fill-start, fill-more, fill-all}
-use Rattle.bench_line.specs.Lanes.{mostSent}
+use Rattle.bench_line.specs.Lanes.{mostSent, Silent}
 use Rattle.bench_line.specs.Seats.{faredIn, faresAt}
-use Rattle.bench_line.specs.Entries.{countOf, frameOf, clippedCount, clippedFrame, verdictsAt}
+use Rattle.bench_line.specs.Entries.{Holders, countOf, frameOf, clippedCount, clippedFrame, verdictsAt}
+use Rattle.bench_line.specs.LoopLaws.{fill-rest}
 use Rattle.bench_line.specs.Stated.{clipped}
+
+-- ## The last holder
+
+module _ (row : List Station) where
+  -- past the last place there is none ..
+  pub holders-start : Holders row mostStations
+  holders-start = record { few = omega arith; none = λ i lo hi. absurd (omega arith) }
+
+  -- .. and none from one place less on, where an empty station stands there
+  pub holders-less : (n : ℕ) → Holders row n → 0 < n → length row ≡ mostStations → (d : Station) → getD row (n - 1) d .len ≤ 0 → Holders row (n - 1)
+  holders-less n s h m d e = record { few = omega (arith, s .few); none = λ i lo hi. go i lo hi (upTo n i) }
+    where
+      go : (i : ℕ) → n - 1 ≤ i → i < mostStations → (n ≤ i) ⊎ (i < n) → getD row i blank .len ≡ 0
+      go i lo hi (inl k) = s .none i k hi
+      go i lo hi (inr k) =
+          let z : n - 1 ≡ i = omega arith in
+          let own : getD row (n - 1) d .len ≡ getD row i blank .len = ap (λ (x : Station). x .len) (getD-any row (n - 1) d blank (omega arith) ∙ ap (λ (x : ℕ). getD row x blank) z) in
+          omega arith
 
 -- ## An array that has something of each station
 
@@ -51,6 +73,14 @@ module _ {B : Type 0} (f : Station → B) where
     each-all h =
         so .so-far ∙ fill-all (λ (p : ℕ). f (getD row p blank)) first i mostStations (so .space) h (so .inside)
         ∙ ap (from (λ (p : ℕ). f (getD row p blank)) 0) (sym (so .whole)) ∙ from-list f row blank
+
+    -- The same of an array that has what belongs there already from place n on.
+    pub each-rest : (n : ℕ) → n ≤ mostStations → (d : B) → ((p : ℕ) → n ≤ p → p < mostStations → f (getD row p blank) ≡ getD first p d) → n ≤ i → i ≤ n → now ≡ map f row
+    each-rest n few d own lo hi =
+        let g : ℕ → B = λ (p : ℕ). f (getD row p blank) in
+        let z : i ≡ n = omega arith in
+        so .so-far ∙ ap (filled g first) z ∙ fill-rest g first d n mostStations (so .space) few own
+        ∙ ap (from g 0) (sym (so .whole)) ∙ from-list f row blank
 
 -- ## What one station brings
 
@@ -101,6 +131,20 @@ frame-at s w n e =
     (sym e)
     (frame-is (clipped s) (omega arith) w (length (stored (clipped s))) refl)
 
+-- Its frame where it is empty: no byte, and the check byte of none, which is 0 too.
+frame-none : (s : Station) → s .len ≡ 0 → clippedFrame s ≡ replicate mostSent 0
+unfolding frameOf checkOf registerFrom
+frame-none s e = let z : min (s .len) mostStored ≡ 0 = omega arith in rw z
+
+module _ (row : List Station) (n : ℕ) (s : Holders row n) where
+  -- From place n on no station brings a bit ..
+  pub counts-rest : (p : ℕ) → n ≤ p → p < mostStations → clippedCount (getD row p blank) ≡ getD (replicate mostStations 0) p 0
+  counts-rest p lo hi = sym (count-none (getD row p blank) (s .none p lo hi)) ∙ sym (getD-replicate {A = ℕ} mostStations p 0 0 hi)
+
+  -- .. or a byte.
+  pub frames-rest : (p : ℕ) → n ≤ p → p < mostStations → clippedFrame (getD row p blank) ≡ getD (replicate mostStations (replicate mostSent 0)) p []
+  frames-rest p lo hi = frame-none (getD row p blank) (s .none p lo hi) ∙ sym (getD-replicate {A = List ℕ} mostStations p (replicate mostSent 0) [] hi)
+
 -- ## The verdicts
 
 module _ (counts lost : List ℕ) where
@@ -108,9 +152,12 @@ module _ (counts lost : List ℕ) where
   unfoldable pub verdictAt : ℕ → Verdict
   verdictAt i = verdictOf (faredIn (getD counts i 0) (getD lost i 0))
 
-  -- An array that is filled with them to its end has the verdicts of the round.
-  pub verdicts-end : (first now : List Verdict) (i : ℕ) → length first ≡ mostStations → mostStations ≤ i → i ≤ mostStations → now ≡ filled verdictAt first i → now ≡ verdictsAt counts lost
+  -- An array of idle places that is filled with them as far as anybody has a bit to send has the verdicts of the round.
+  pub verdicts-end : (n : ℕ) → Silent counts n → (now : List Verdict) (i : ℕ) → n ≤ i → i ≤ n → now ≡ filled verdictAt (replicate mostStations (verdictOf Idle)) i → now ≡ verdictsAt counts lost
   unfolding verdictAt faresAt
-  verdicts-end first now i n lo hi e =
-      e ∙ fill-all verdictAt first i mostStations n lo hi
+  verdicts-end n s now i lo hi e =
+      let z : i ≡ n = omega arith in
+      e ∙ ap (filled verdictAt (replicate mostStations (verdictOf Idle))) z
+      ∙ fill-rest verdictAt (replicate mostStations (verdictOf Idle)) (verdictOf Idle) n mostStations (length-replicate mostStations (verdictOf Idle)) (s .few)
+      (λ p a b. ap (λ (c : ℕ). verdictOf (faredIn c (getD lost p 0))) (s .none p a b) ∙ sym (getD-replicate mostStations p (verdictOf Idle) (verdictOf Idle) b))
       ∙ sym (map-from verdictOf (λ (p : ℕ). faredIn (getD counts p 0) (getD lost p 0)) 0 mostStations)

@@ -1,7 +1,8 @@
 -- Laws.
 -- The lanes of a round as the code keeps them: what each place asks at a bit, and what becomes of it.
-use Prim.Native.Nat.{ℕ, suc, _+_, _/_}
-use mathlib.Core.Bool.{Bool, false}
+use Prim.Native.Nat.{ℕ, suc, _+_, _/_, _≤_, _<_}
+use mathlib.Core.Path.{_≡_}
+use mathlib.Core.Bool.{Bool, false, not}
 use mathlib.Core.List.{List, [], _∷_}
 use lib.ListN.{getD}
 use Rattle.bench.specs.Stations.{mostStations, mostStored}
@@ -24,6 +25,11 @@ pub record Lanes : Type 0 where
 -- the four together
 abbrev pub lanesOf : List ℕ → List (List ℕ) → List ℕ → List ℕ → Lanes
 lanesOf counts frames shorts longs = record { counts = counts; frames = frames; shorts = shorts; longs = longs }
+
+-- from place n on nobody has a bit to send
+pub record Silent (counts : List ℕ) (n : ℕ) : Type 0 where
+  pub few : n ≤ mostStations
+  pub none : (i : ℕ) → n ≤ i → i < mostStations → getD counts i 0 ≡ 0
 
 -- a place at bit j, from 0 on
 unfoldable pub laneAt : Lanes → List ℕ → ℕ → ℕ → Lane
@@ -49,3 +55,8 @@ allAsked active (ask ∷ asks) = takenIn active (allAsked active asks) ask
 -- where each place has lost, once bit j was on the line
 unfoldable pub lostAll : Lanes → List ℕ → Bool → ℕ → Bool → List ℕ
 lostAll l lost active j one = from (λ (i : ℕ). lostBy (j + 1) one (askOf (laneAt l lost j i) active j) (getD lost i 0)) 0 mostStations
+
+-- all places have heard bit j, and this is what they ask at the next one
+pub record Heard (l : Lanes) (lost lost′ : List ℕ) (active : Bool) (j : ℕ) (one : Bool) (next : LineAsk) : Type 0 where
+  pub loses : lost′ ≡ lostAll l lost active j one
+  pub asks : next ≡ allAsked (not active) (asksAt l lost′ (not active) (j + 1))

@@ -25,7 +25,8 @@ use Rattle.bench_line.specs.Seats.{LanesOk, clockAt, restAt, seatAt, sea
 use Rattle.bench_line.specs.Entries.{countOf, frameOf, widthOf, clippedCount, clippedFrame, lanesIn}
 use Rattle.bench_line.specs.Stated.{clipped}
 
-at-map : {B : Type 0} (f : Station → B) (row : List Station) (i : ℕ) (d : B) → i < length row → getD (map f row) i d ≡ f (getD row i blank)
+-- What the list made from a row has at a place.
+pub at-map : {B : Type 0} (f : Station → B) (row : List Station) (i : ℕ) (d : B) → i < length row → getD (map f row) i d ≡ f (getD row i blank)
 at-map f [] i d h = absurd (omega arith)
 at-map f (s ∷ row) zero d h = refl
 at-map f (s ∷ row) (suc i) d h = at-map f row i d (omega arith)

@@ -4,12 +4,27 @@ ghost use Prim.Native.Nat.{min};
 ghost use mathlib.Core.Path.{_≡_};
 ghost use mathlib.Core.List.{map};
 ghost use Rattle.bench.specs.Stations.{mostStored};
-ghost use Rattle.bench_line.specs.Entries.{clippedCount, clippedFrame, widthOf};
+ghost use Rattle.bench_line.specs.Entries.{Holders, clippedCount, clippedFrame, widthOf};
 use bench::MOST_SENT;
 use bench::MOST_STATIONS;
 use bench::MOST_STORED;
 use bench::Station;
 use bench_lane::BITS_OF_BYTE;
+
+// The number of places up to the last holder: a round looks at no more, however long the row is.
+pub(crate) fn places(row: [Station; MOST_STATIONS]) -> usize
+    ensures { λ r. ⌜ Holders row r ⌝ }
+{
+    let mut n = MOST_STATIONS;
+    while 0 < n {
+        let station = row[n - 1];
+        if 0 < station.len {
+            return n;
+        }
+        n -= 1;
+    }
+    n
+}
 
 // How many bits a station has to send, with those of its check byte.
 fn count_of(station: Station) -> usize
@@ -41,13 +56,14 @@ fn frame_of(station: Station) -> [u8; MOST_SENT]
     frame
 }
 
-// How many bits each station has to send.
-pub(crate) fn counts(row: [Station; MOST_STATIONS]) -> [usize; MOST_STATIONS]
+// How many bits each station has to send. Those from `places` on hold no message.
+pub(crate) fn counts(row: [Station; MOST_STATIONS], places: usize) -> [usize; MOST_STATIONS]
+    requires { ⌜ Holders row places ⌝ }
     ensures { λ r. ⌜ r ≡ map clippedCount row ⌝ }
 {
     let mut all: [usize; MOST_STATIONS] = [0; MOST_STATIONS];
     let mut i = 0;
-    while i < MOST_STATIONS {
+    while i < places {
         let station = row[i];
         all[i] = count_of(station);
         i += 1;
@@ -55,14 +71,18 @@ pub(crate) fn counts(row: [Station; MOST_STATIONS]) -> [usize; MOST_STATIONS]
     all
 }
 
-// The bytes that each station sends.
-pub(crate) fn frames(row: [Station; MOST_STATIONS]) -> [[u8; MOST_SENT]; MOST_STATIONS]
+// The bytes that each station sends. Those from `places` on hold no message, and the check byte of none is 0.
+pub(crate) fn frames(
+    row: [Station; MOST_STATIONS],
+    places: usize,
+) -> [[u8; MOST_SENT]; MOST_STATIONS]
+    requires { ⌜ Holders row places ⌝ }
     ensures { λ r. ⌜ r ≡ map clippedFrame row ⌝ }
 {
     let none: [u8; MOST_SENT] = [0; MOST_SENT];
     let mut all: [[u8; MOST_SENT]; MOST_STATIONS] = [none; MOST_STATIONS];
     let mut i = 0;
-    while i < MOST_STATIONS {
+    while i < places {
         let station = row[i];
         let frame = frame_of(station);
         all[i] = frame;

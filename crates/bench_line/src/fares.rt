@@ -1,5 +1,6 @@
 // How the places fared in a round that is over.
 ghost use mathlib.Core.Path.{_≡_};
+ghost use Rattle.bench_line.specs.Lanes.{Silent};
 ghost use Rattle.bench_line.specs.Seats.{faredIn};
 ghost use Rattle.bench_line.specs.Entries.{verdictsAt};
 use bench::Fared;
@@ -23,17 +24,19 @@ fn fared(count: usize, lost: usize) -> Verdict
     }
 }
 
-// The verdicts of a round that is over.
+// The verdicts of a round that is over. Only the places before `places` had anything to send.
 pub(crate) fn verdicts(
     counts: &[usize; MOST_STATIONS],
     lost: &[usize; MOST_STATIONS],
+    places: usize,
 ) -> [Verdict; MOST_STATIONS]
+    requires { ⌜ Silent (now counts) places ⌝ }
     ensures { λ r. ⌜ r ≡ verdictsAt (now (counts .entry)) (now (lost .entry)) ⌝ }
 {
     let idle = Verdict { fared: Fared::Idle };
     let mut all: [Verdict; MOST_STATIONS] = [idle; MOST_STATIONS];
     let mut i = 0;
-    while i < MOST_STATIONS {
+    while i < places {
         let verdict = fared(counts[i], lost[i]);
         all[i] = verdict;
         i += 1;

@@ -7,13 +7,14 @@
 //     shorts   the short bit of its clock
 //     longs    the long bit of its clock
 //     lost     the bit at which it lost, counted from 1 after the SOF; 0 while it remains
-ghost use Prim.Native.Nat.{_<_};
+ghost use Prim.Native.Nat.{_<_, _/_, min};
 ghost use mathlib.Core.Path.{_≡_};
 ghost use lib.ListN.{length};
-ghost use Rattle.bench.specs.Stations.{mostStations};
+ghost use Rattle.bench.specs.Stations.{mostStations, mostStored};
 ghost use Rattle.bench.specs.Course.{mostBits, onLine};
 ghost use Rattle.bench_lane.specs.Lane.{askOf};
-ghost use Rattle.bench_line.specs.Lanes.{lanesOf, laneAt, asksAt, allAsked, lostAll};
+ghost use Rattle.bench_line.specs.Lanes.{Silent, lanesOf, laneAt, asksAt, allAsked, Heard};
+ghost use Rattle.bench_line.specs.Seats.{LanesOk};
 use bench::MOST_SENT;
 use bench::MOST_STATIONS;
 use bench_lane::Ask;
@@ -34,18 +35,26 @@ fn asks_at(
     i: usize,
     j: usize,
 ) -> Ask
-    requires { ⌜ (i < mostStations) × (j < mostBits) ⌝ }
+    requires { ⌜ (i < mostStations) × LanesOk (lanesOf (now counts) (now frames) (now shorts) (now longs)) ⌝ }
     ensures { λ r. ⌜ r ≡ askOf (laneAt (lanesOf (now (counts .entry)) (now (frames .entry)) (now (shorts .entry)) (now (longs .entry))) (now (lost .entry)) j i) active j ⌝ }
 {
     let lost_at = lost[i];
     if 0 < lost_at {
         return Ask::Out;
     }
-    let byte = frames[i][j / BITS_OF_BYTE];
+    let byte = frames[i][byte_of(j)];
     bench_lane::asks(counts[i], byte, shorts[i], longs[i], lost_at, active, j)
 }
 
-// What all places ask of the line at bit j.
+// The byte in which bit j lies. Past the last bit it is the last byte, which then says nothing.
+fn byte_of(j: usize) -> usize
+    ensures { λ r. ⌜ r ≡ min (j / 8) mostStored ⌝ }
+{
+    let k = j / BITS_OF_BYTE;
+    if k < MOST_SENT - 1 { k } else { MOST_SENT - 1 }
+}
+
+// What all places ask of the line at bit j. Only those before `places` have anything to send.
 pub(crate) fn all_ask(
     counts: &[usize; MOST_STATIONS],
     frames: &[[u8; MOST_SENT]; MOST_STATIONS],
@@ -54,15 +63,16 @@ pub(crate) fn all_ask(
     lost: &[usize; MOST_STATIONS],
     active: bool,
     j: usize,
+    places: usize,
 ) -> LineAsk
-    requires { ⌜ j < mostBits ⌝ }
+    requires { ⌜ LanesOk (lanesOf (now counts) (now frames) (now shorts) (now longs)) × Silent (now counts) places ⌝ }
     ensures { λ r. ⌜ r ≡ allAsked active (asksAt (lanesOf (now (counts .entry)) (now (frames .entry)) (now (shorts .entry)) (now (longs .entry))) (now (lost .entry)) active j) ⌝ }
 {
     let mut all = LineAsk {
         some: false,
         width: 0,
     };
-    let mut i = MOST_STATIONS;
+    let mut i = places;
     while 0 < i {
         i -= 1;
         let ask = asks_at(counts, frames, shorts, longs, lost, active, i, j);
@@ -71,7 +81,8 @@ pub(crate) fn all_ask(
     all
 }
 
-// Every place hears bit j.
+// Every place hears bit j. Answers what all of them ask at the bit after it, so that a bit costs one walk over the places. It
+// says nothing to those from `places` on, which have nothing to send.
 pub(crate) fn hear(
     counts: &[usize; MOST_STATIONS],
     frames: &[[u8; MOST_SENT]; MOST_STATIONS],
@@ -81,16 +92,24 @@ pub(crate) fn hear(
     active: bool,
     j: usize,
     one: bool,
-)
-    requires { ⌜ (j < mostBits) × (length (now lost) ≡ mostStations) ⌝ }
-    ensures { λ _. ⌜ now (lost .exit) ≡ lostAll (lanesOf (now (counts .entry)) (now (frames .entry)) (now (shorts .entry)) (now (longs .entry))) (now (lost .entry)) active j one ⌝ }
+    places: usize,
+) -> LineAsk
+    requires { ⌜ LanesOk (lanesOf (now counts) (now frames) (now shorts) (now longs)) × (j < mostBits) × (length (now lost) ≡ mostStations) × Silent (now counts) places ⌝ }
+    ensures { λ r. ⌜ Heard (lanesOf (now (counts .entry)) (now (frames .entry)) (now (shorts .entry)) (now (longs .entry))) (now (lost .entry)) (now (lost .exit)) active j one r ⌝ }
 {
-    let mut i = 0;
-    while i < MOST_STATIONS {
+    let mut all = LineAsk {
+        some: false,
+        width: 0,
+    };
+    let mut i = places;
+    while 0 < i {
+        i -= 1;
         let ask = asks_at(counts, frames, shorts, longs, lost, active, i, j);
         lost[i] = bench_lane::lost_by(ask, lost[i], j + 1, one);
-        i += 1;
+        let next = asks_at(counts, frames, shorts, longs, lost, !active, i, j + 1);
+        all = bench_lane::taken_in(all, next, !active);
     }
+    all
 }
 
 // The bit on the line: the one that the table of symbols gives to its width, at its level.

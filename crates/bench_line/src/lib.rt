@@ -51,12 +51,13 @@ fn contend_on(at: [Station; MOST_STATIONS], words: &mut [u32]) -> Contended
     requires { ⌜ mostWords ≤ length (now words) ⌝ }
     ensures { λ r. ⌜ ContendedIn (courseOn (map clipped at)) (now (words .entry)) (now (words .exit)) r ⌝ }
 {
-    let counts = entries::counts(at);
-    let frames = entries::frames(at);
+    let places = entries::places(at);
+    let counts = entries::counts(at, places);
+    let frames = entries::frames(at, places);
     let shorts = entries::widths(at, false);
     let longs = entries::widths(at, true);
     let mut lost: [usize; MOST_STATIONS] = [0; MOST_STATIONS];
-    let bits = sending::send_bits(&counts, &frames, &shorts, &longs, &mut lost, words);
-    let verdicts = fares::verdicts(&counts, &lost);
+    let bits = sending::send_bits(&counts, &frames, &shorts, &longs, &mut lost, words, places);
+    let verdicts = fares::verdicts(&counts, &lost, places);
     Contended { bits, verdicts }
 }

@@ -22,15 +22,16 @@ use Rattle.bench_round.specs.Rounds.{roundNumber, numberOn, PlayedBy}
 
 -- ## One answer, one held row, one state of the words
 
--- what a round comes to, of its two parts
-abbrev playedWith : HeldRow → RoundAnswer → Played
-playedWith b a = record { held = b; answer = a }
+-- what a round comes to, of its three parts
+abbrev playedWith : HeldRow → RoundAnswer → Bool → Played
+playedWith b a t = record { held = b; answer = a; taken = t }
 
 -- No second answer, no other held row and no other words meet the promise of a round by value.
 pub played-settled : {b : HeldRow} {lent left left' : List ℕ} {r s : Played} → PlayedBy b lent left r → PlayedBy b lent left' s → (r ≡ s) × (left ≡ left')
 played-settled {r = r} {s = s} p q = (
-  ap (λ (x : HeldRow). playedWith x (r .answer)) (settled (p .leaves) (q .leaves))
-      ∙ ap (λ (x : RoundAnswer). playedWith (s .held) x) (said-once (r .answer) (s .answer) (settled (p .says) (q .says))),
+  ap (λ (x : HeldRow). playedWith x (r .answer) (r .taken)) (settled (p .leaves) (q .leaves))
+      ∙ ap (λ (x : RoundAnswer). playedWith (s .held) x (r .taken)) (said-once (r .answer) (s .answer) (settled (p .says) (q .says)))
+      ∙ ap (playedWith (s .held) (s .answer)) (settled (p .takes) (q .takes)),
   settled (p .lends) (q .lends),
 )
 

@@ -21,7 +21,7 @@ use Rattle.bench.specs.Calls.{allSound, written}
 use Rattle.bench.specs.RowLaws.{faresAgainst, row-fares, row-comes}
 use Rattle.bench.specs.RoundStated.{winnerOf}
 use Rattle.bench.specs.Promise.{RoundSaid, played}
-use Rattle.loops.specs.Scan.{from, from-same, filled, fill-more, fill-all, fold-start, fold-more, fold-all, getD-any}
+use Rattle.loops.specs.Scan.{from, from-same, filled, fill-ahead, fill-more, fill-all, fold-start, fold-more, fold-all, getD-any}
 use Rattle.bench_line.specs.declared.Contended.{Contended}
 use Rattle.bench_line.specs.Contending.{courseOn, ContendedIn, ContendedBy}
 use Rattle.bench_line.specs.ContendLaws.{sound-sent, course-few}
@@ -184,29 +184,29 @@ after-is at fares n m =
     ∙ after-all fares at (omega arith)
 
 -- the stations while they are seen to, at place i
-pub record Settling (at : List Station) (verdicts : List Verdict) (first now : List Station) (i : ℕ) : Type 0 where
+pub record Settling (at : List Station) (verdicts : List Verdict) (now : List Station) (i : ℕ) : Type 0 where
   pub inside : i ≤ mostStations
   pub places : length at ≡ mostStations
   pub answers : length verdicts ≡ mostStations
-  pub space : length first ≡ mostStations
-  pub so-far : now ≡ filled (afterVerdict at verdicts) first i
+  pub so-far : now ≡ filled (afterVerdict at verdicts) at i
 
-module _ {at : List Station} {verdicts : List Verdict} {first now : List Station} {i : ℕ} (so : Settling at verdicts first now i) where
+module _ {at : List Station} {verdicts : List Verdict} {now : List Station} {i : ℕ} (so : Settling at verdicts now i) where
   -- one station more
-  pub settle-more : i < mostStations → (d : Station) (e : Verdict) (x : Station) → x ≡ afterFare (getD verdicts i e .fared) (getD at i d) → Settling at verdicts first (set now i x) (i + 1)
+  pub settle-more : i < mostStations → (d : Station) (e : Verdict) (x : Station) → x ≡ afterFare (getD verdicts i e .fared) (getD now i d) → Settling at verdicts (set now i x) (i + 1)
   settle-more h d e x p =
+      let own : getD now i d ≡ getD at i blank =
+      ap (λ (r : List Station). getD r i d) (so .so-far) ∙ fill-ahead (afterVerdict at verdicts) at i d (omega (arith, so .places)) ∙ getD-any at i d blank (omega (arith, so .places)) in
       record {
         inside = omega arith;
         places = so .places;
         answers = so .answers;
-        space = so .space;
         so-far =
             ap (λ (r : List Station). set r i x) (so .so-far)
-            ∙ fill-more (afterVerdict at verdicts) first i x x (omega (arith, so .space))
-            (p ∙ ap₂ (λ (v : Verdict) (s : Station). afterFare (v .fared) s) (getD-any verdicts i e (verdictOf Idle) (omega (arith, so .answers))) (getD-any at i d blank (omega (arith, so .places))));
+            ∙ fill-more (afterVerdict at verdicts) at i x x (omega (arith, so .places))
+            (p ∙ ap₂ (λ (v : Verdict) (s : Station). afterFare (v .fared) s) (getD-any verdicts i e (verdictOf Idle) (omega (arith, so .answers))) own);
       }
 
   -- all of them
   pub settle-all : mostStations ≤ i → now ≡ afterVerdicts at verdicts
   unfolding afterVerdicts
-  settle-all h = so .so-far ∙ fill-all (afterVerdict at verdicts) first i mostStations (so .space) h (so .inside)
+  settle-all h = so .so-far ∙ fill-all (afterVerdict at verdicts) at i mostStations (so .places) h (so .inside)

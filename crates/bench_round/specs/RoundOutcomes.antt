@@ -47,22 +47,24 @@ module _ (b : HeldRow) (lent : List ℕ) (v : Survey) (e : v ≡ surveyOf (b .at
 
   -- It is played ..
   pub plays : yes ≡ true → length (b .at) ≡ mostStations → (answer : RoundAnswer) → said answer ≡ played (roundOf (b .at))
-      → (after : List Station) → after ≡ afterVerdicts (b .at) (answer .verdicts) → (lent′ : List ℕ) → lent′ ≡ written (roundOf (b .at) .words) lent
-      → PlayedBy b lent lent′ (record { held = record { at = after; count = b .count }; answer = answer })
+      → (after : HeldRow) → after ≡ record { at = afterVerdicts (b .at) (answer .verdicts); count = b .count } → (lent′ : List ℕ) → lent′ ≡ written (roundOf (b .at) .words) lent
+      → PlayedBy b lent lent′ (record { held = after; answer = answer; taken = true })
   plays t n answer s after f lent′ g =
-      let so = f ∙ ap (afterVerdicts (b .at)) (ap (λ (x : RoundSaid). x .verdicts) s) ∙ after-is (b .at) (roundOf (b .at) .fares) n (fares-length (b .at) n (passed t .0)) in
+      let so = ap (afterVerdicts (b .at)) (ap (λ (x : RoundSaid). x .verdicts) s) ∙ after-is (b .at) (roundOf (b .at) .fares) n (fares-length (b .at) n (passed t .0)) in
       record {
         says = rw (first ∙ t) s;
-        leaves = rw (first ∙ t) (ap (λ (l : List Station). record { at = l; count = b .count }) so);
+        leaves = rw (first ∙ t) (f ∙ ap (λ (l : List Station). record { at = l; count = b .count }) so);
         lends = rw (first ∙ t) g;
+        takes = rw (first ∙ t);
       }
 
   -- .. and any other is turned away.
-  pub turns-away : yes ≡ false → (answer : RoundAnswer) → answer ≡ idleAll told → PlayedBy b lent lent (record { held = b; answer = answer })
+  pub turns-away : yes ≡ false → (answer : RoundAnswer) → answer ≡ idleAll told → PlayedBy b lent lent (record { held = b; answer = answer; taken = false })
   unfolding idleAll
   turns-away t answer f =
       record {
         says = rw (first ∙ t) (ap said f ∙ ap turnedAway number);
         leaves = rw (first ∙ t);
         lends = rw (first ∙ t);
+        takes = rw (first ∙ t);
       }

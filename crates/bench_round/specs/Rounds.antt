@@ -47,3 +47,4 @@ pub record PlayedBy (b : HeldRow) (lent lent′ : List ℕ) (r : Played) : Type 
   pub says : said (r .answer) ≡ cond (eqb (numberOn b lent) 0) (played (roundOf (b .at))) (turnedAway (numberOn b lent))
   pub leaves : r .held ≡ cond (eqb (numberOn b lent) 0) (record { at = afterFares (roundOf (b .at) .fares) (b .at); count = b .count }) b
   pub lends : lent′ ≡ cond (eqb (numberOn b lent) 0) (written (roundOf (b .at) .words) lent) lent
+  pub takes : r .taken ≡ eqb (numberOn b lent) 0

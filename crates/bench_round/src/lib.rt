@@ -25,10 +25,11 @@ use frame::MOST_WORDS;
 use symbol::END_SENT;
 use units::Micros;
 
-// What a round answers, and the held row after it.
+// What a round answers, the held row after it, and whether the round was taken: where it was not, nothing is put back.
 pub struct Played {
     pub held: HeldRow,
     pub answer: RoundAnswer,
+    pub taken: bool,
 }
 
 // Plays a round.
@@ -41,15 +42,19 @@ pub fn round_on(held: HeldRow, words: &mut [u32]) -> Played
     if is_played(told) {
         let answer = play(at, survey.sof, words);
         let verdicts = answer.verdicts;
-        let after = after_round(at, verdicts);
-        let next = HeldRow {
-            at: after,
-            count: held.count,
+        let next = after_round(held, verdicts);
+        return Played {
+            held: next,
+            answer,
+            taken: true,
         };
-        return Played { held: next, answer };
     }
     let answer = turned_away(told);
-    Played { held, answer }
+    Played {
+        held,
+        answer,
+        taken: false,
+    }
 }
 
 // Why a round is turned away, in document 01's order, or that it is played.
@@ -132,19 +137,16 @@ fn sum(words: &[u32], n: usize) -> u32
 }
 
 // The stations after a round: those that got through are empty.
-fn after_round(
-    at: [Station; MOST_STATIONS],
-    verdicts: [Verdict; MOST_STATIONS],
-) -> [Station; MOST_STATIONS]
-    ensures { λ r. ⌜ r ≡ afterVerdicts at verdicts ⌝ }
+fn after_round(held: HeldRow, verdicts: [Verdict; MOST_STATIONS]) -> HeldRow
+    ensures { λ r. ⌜ r ≡ record { at = afterVerdicts (held .at) verdicts; count = held .count } ⌝ }
 {
-    let mut next = at;
+    let mut next = held;
     let mut i = 0;
     while i < MOST_STATIONS {
-        let station = at[i];
+        let station = next.at[i];
         let verdict = verdicts[i];
         let after = after_verdict(station, verdict);
-        next[i] = after;
+        next.at[i] = after;
         i += 1;
     }
     next

@@ -4,6 +4,7 @@ ghost use Prim.Native.Nat.{min};
 ghost use lib.ListN.{getD, replicate};
 ghost use Rattle.bench.specs.Stations.{mostStations, blank};
 ghost use Rattle.bench.specs.Round.{emptied};
+ghost use Rattle.bench_row.specs.HeldRows.{putCount};
 use bench::MOST_STATIONS;
 use bench::Station;
 
@@ -46,6 +47,14 @@ pub fn held_of(at: [Station; MOST_STATIONS], count: usize) -> HeldRow
     ensures { λ r. ⌜ r ≡ record { at = at; count = count } ⌝ }
 {
     HeldRow { at, count }
+}
+
+// How many stations are put back into a row of so many: those that are kept, and none where the call was turned away.
+pub fn put_count(count: usize, taken: bool) -> usize
+    ensures { λ r. ⌜ r ≡ putCount count taken ⌝ }
+{
+    let all = kept(count);
+    if taken { all } else { 0 }
 }
 
 // The station that the held row has at place i, or else the one that stands there.

@@ -21,11 +21,17 @@ element-copy-out-station c = search needs
 bad-message-requires : tie.Need-bad-message-requires
 bad-message-requires c κs = search needs
 
+away-requires : tie.Need-away-requires
+away-requires c κs = search needs
+
 returns : tie.Need-returns
-returns c = let a = c .before .before .before .before .before in load-bad (a .args .t1) (a .args .place) (a .args .message .now) (sym (c .before .before .bad-message .ensures) ∙ c .if1 .taken)
+returns c = let a = c .before .before .before .before .before .before in rw (c .away .ensures) (load-bad (a .args .t1) (a .args .place) (a .args .message .now) (sym (c .before .before .before .bad-message .ensures) ∙ c .before .if1 .taken))
+
+away-requires-2 : tie.Need-away-requires-2
+away-requires-2 c κs = search needs
 
 returns-2 : tie.Need-returns-2
-returns-2 c = let a = c .before .before .before .before .before .before in load-holding (a .args .t1) (a .args .place) _ (omega (arith, a .pre, full (a .args .t1) (a .good .0))) _ (sym (c .before .before .before .bad-message .ensures) ∙ c .before .if1 .left) (ltb-true 0 _ (c .if2 .taken))
+returns-2 c = let a = c .before .before .before .before .before .before .before in rw (c .away2 .ensures) (load-holding (a .args .t1) (a .args .place) _ (omega (arith, a .pre, full (a .args .t1) (a .good .0))) _ (sym (c .before .before .before .before .bad-message .ensures) ∙ c .before .before .if1 .left) (ltb-true 0 _ (c .before .if2 .taken)))
 
 loaded-requires : tie.Need-loaded-requires
 loaded-requires c κs = let b = c .before .before .before in let m = b .before .before .before .args .message .now in ltb-false mostStored (length m) (neither (eqb (length m) 0) (ltb mostStored (length m)) (sym (b .bad-message .ensures) ∙ c .before .if1 .left) .1)
@@ -43,8 +49,8 @@ load-at-spec =
     mul-station
     element-copy-out-station
     bad-message-requires
-    returns
-    returns-2
+    away-requires returns
+    away-requires-2 returns-2
     loaded-requires
     taken-requires
     returns-3)

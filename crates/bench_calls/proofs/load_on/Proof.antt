@@ -19,9 +19,12 @@ returns : tie.Need-returns
 unfolding loadAtNumber
 returns c = let a = c .before .before .before .before .before .args in goes-on (a .held) (a .place) (c .before .before .before .row-call .result) (c .before .before .before .row-call .ensures) _ (c .before .before .is-done .ensures) (c .before .if1 .taken) (loadRules (a .message .now) (stationOf (a .held) (a .place))) _ _ (c .load-at .ensures)
 
+away-requires : tie.Need-away-requires
+away-requires c κs = search needs
+
 returns-2 : tie.Need-returns-2
-returns-2 c = let a = c .before .before .before .before .args in stops (a .held) (a .place) (c .before .before .row-call .result) (c .before .before .row-call .ensures) _ (c .before .is-done .ensures) (c .if1 .left) (loadRules (a .message .now) (stationOf (a .held) (a .place))) _
+returns-2 c = let a = c .before .before .before .before .before .args in rw (c .away .ensures) (stops (a .held) (a .place) (c .before .before .before .row-call .result) (c .before .before .before .row-call .ensures) _ (c .before .before .is-done .ensures) (c .before .if1 .left) (loadRules (a .message .now) (stationOf (a .held) (a .place))) _)
 
 pub load-on-spec : {M : Type 1} → statement M
 load-on-spec =
-    tie.close (tie.spec row-call-requires is-done-requires load-at-requires returns returns-2)
+    tie.close (tie.spec row-call-requires is-done-requires load-at-requires returns away-requires returns-2)

@@ -25,8 +25,11 @@ taken-requires c κs = search needs
 returns : tie.Need-returns
 returns c = let a = c .before .before .before .before .before in clock-done (a .args .t1) (a .args .place) _ (omega (arith, a .pre, full (a .args .t1) (a .good .0))) (a .args .clock) (sym (c .before .before .before .good-clock .ensures) ∙ c .before .before .if1 .taken) _ (c .before .with-clock .ensures) _ (c .taken .ensures)
 
+away-requires : tie.Need-away-requires
+away-requires c κs = search needs
+
 returns-2 : tie.Need-returns-2
-returns-2 c = let a = c .before .before .before in clock-bad (a .args .t1) (a .args .place) (a .args .clock) (sym (c .before .good-clock .ensures) ∙ c .if1 .left)
+returns-2 c = let a = c .before .before .before .before in rw (c .away .ensures) (clock-bad (a .args .t1) (a .args .place) (a .args .clock) (sym (c .before .before .good-clock .ensures) ∙ c .before .if1 .left))
 
 pub set-clock-at-spec : {M : Type 1} → statement M
 set-clock-at-spec =
@@ -38,4 +41,4 @@ set-clock-at-spec =
     with-clock-requires
     taken-requires
     returns
-    returns-2)
+    away-requires returns-2)

@@ -19,9 +19,12 @@ returns : tie.Need-returns
 unfolding clockAtNumber
 returns c = let a = c .before .before .before .before .args in goes-on (a .held) (a .place) (c .before .before .before .row-call .result) (c .before .before .before .row-call .ensures) _ (c .before .before .is-done .ensures) (c .before .if1 .taken) (clockRules (a .clock)) _ _ (c .set-clock-at .ensures)
 
+away-requires : tie.Need-away-requires
+away-requires c κs = search needs
+
 returns-2 : tie.Need-returns-2
-returns-2 c = let a = c .before .before .before .args in stops (a .held) (a .place) (c .before .before .row-call .result) (c .before .before .row-call .ensures) _ (c .before .is-done .ensures) (c .if1 .left) (clockRules (a .clock)) _
+returns-2 c = let a = c .before .before .before .before .args in rw (c .away .ensures) (stops (a .held) (a .place) (c .before .before .before .row-call .result) (c .before .before .before .row-call .ensures) _ (c .before .before .is-done .ensures) (c .before .if1 .left) (clockRules (a .clock)) _)
 
 pub set-clock-on-spec : {M : Type 1} → statement M
 set-clock-on-spec =
-    tie.close (tie.spec row-call-requires is-done-requires set-clock-at-requires returns returns-2)
+    tie.close (tie.spec row-call-requires is-done-requires set-clock-at-requires returns away-requires returns-2)

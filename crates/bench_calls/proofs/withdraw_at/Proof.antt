@@ -12,8 +12,11 @@ mul-station c = search needs
 element-copy-out-station : tie.Need-element-copy-out-station
 element-copy-out-station c = search needs
 
+away-requires : tie.Need-away-requires
+away-requires c κs = search needs
+
 returns : tie.Need-returns
-returns c = let a = c .before .before .before in withdraw-nothing (a .args .t1) (a .args .place) _ (omega (arith, a .pre, full (a .args .t1) (a .good .0))) (c .if1 .taken)
+returns c = let a = c .before .before .before .before in rw (c .away .ensures) (withdraw-nothing (a .args .t1) (a .args .place) _ (omega (arith, a .pre, full (a .args .t1) (a .good .0))) (c .before .if1 .taken))
 
 empty-requires : tie.Need-empty-requires
 empty-requires c κs = search needs
@@ -27,4 +30,4 @@ returns-2 c = let a = c .before .before .before .before .before in withdraw-done
 pub withdraw-at-spec : {M : Type 1} → statement M
 withdraw-at-spec =
     tie.close
-    (tie.spec mul-station element-copy-out-station returns empty-requires taken-requires returns-2)
+    (tie.spec mul-station element-copy-out-station away-requires returns empty-requires taken-requires returns-2)

@@ -19,9 +19,12 @@ returns : tie.Need-returns
 unfolding withdrawAtNumber
 returns c = let a = c .before .before .before .before .args in goes-on (a .held) (a .place) (c .before .before .before .row-call .result) (c .before .before .before .row-call .ensures) _ (c .before .before .is-done .ensures) (c .before .if1 .taken) (withdrawRules (stationOf (a .held) (a .place))) _ _ (c .withdraw-at .ensures)
 
+away-requires : tie.Need-away-requires
+away-requires c κs = search needs
+
 returns-2 : tie.Need-returns-2
-returns-2 c = let a = c .before .before .before .args in stops (a .held) (a .place) (c .before .before .row-call .result) (c .before .before .row-call .ensures) _ (c .before .is-done .ensures) (c .if1 .left) (withdrawRules (stationOf (a .held) (a .place))) _
+returns-2 c = let a = c .before .before .before .before .args in rw (c .away .ensures) (stops (a .held) (a .place) (c .before .before .before .row-call .result) (c .before .before .before .row-call .ensures) _ (c .before .before .is-done .ensures) (c .before .if1 .left) (withdrawRules (stationOf (a .held) (a .place))) _)
 
 pub withdraw-on-spec : {M : Type 1} → statement M
 withdraw-on-spec =
-    tie.close (tie.spec row-call-requires is-done-requires withdraw-at-requires returns returns-2)
+    tie.close (tie.spec row-call-requires is-done-requires withdraw-at-requires returns away-requires returns-2)

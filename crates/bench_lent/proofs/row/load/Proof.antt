@@ -133,10 +133,10 @@ module _ {M : Type 1} (𝓤 : URA M) (H : Heap 𝓤) (A : Atoms 𝓤) (W : Given
   Post = walkOf 𝓤 H A f.ended stayed (f.clauses 𝓤 H A at-mem run) .post (((κ, (κ′, tt)), (q, (q′, tt)), tt, x, at), tt)
 
   exits : (r : Changed) → Says 𝓤 H A at-mem run κ′ q′ c i m r → Is A′.the-row (r .called) (aval (r .called) ∷ [])
-      → ent 𝓤 (⋆ 𝓤 H A (‵ (finally R γ (putBack (r .held) ys)) ∷ ‵ (flft κ q) ∷ ‵ (flft κ′ q′) ∷ [])) (Post (aval (r .called)))
+      → ent 𝓤 (⋆ 𝓤 H A (‵ (finally R γ (putBack (r .held) (r .taken) ys)) ∷ ‵ (flft κ q) ∷ ‵ (flft κ′ q′) ∷ [])) (Post (aval (r .called)))
   exits r e is =
-      qed W (‵ (finally R γ (putBack (r .held) ys)) ∷ ‵ (flft κ q) ∷ ‵ (flft κ′ q′) ∷ []) ∵
-      suffices ! _ (ends-at 𝓤 H A f.ended stayed (f.clauses 𝓤 H A at-mem run) W (((κ, (κ′, tt)), (q, (q′, tt)), tt, x, at), tt) (aval (r .called)) (r .called) (putBack (r .held) ys, (tt, (tt, tt))) (put-length (r .held) ys, (tt, (tt, tt)))) $
+      qed W (‵ (finally R γ (putBack (r .held) (r .taken) ys)) ∷ ‵ (flft κ q) ∷ ‵ (flft κ′ q′) ∷ []) ∵
+      suffices ! _ (ends-at 𝓤 H A f.ended stayed (f.clauses 𝓤 H A at-mem run) W (((κ, (κ′, tt)), (q, (q′, tt)), tt, x, at), tt) (aval (r .called)) (r .called) (putBack (r .held) (r .taken) ys, (tt, (tt, tt))) (put-length (r .held) (r .taken) ys, (tt, (tt, tt)))) $
       says ! (load-kept ys i r (m .now) e) $
       nothing ! $ move ! (3 ∷ 0 ∷ []) $ join ! $ move ! (2 ∷ 0 ∷ []) $ join ! $ frame ! $ nothing ! $ nothing ! $ fjoin ! $ nothing ! $ fjoin ! $ move ! (1 ∷ 0 ∷ []) $ fjoin ! $ frame ! $
       owned ! A′.the-row (Is A′.the-row) (EL.makes A′.the-type A″.the-plain 𝓤 H A) (r .called) _ is $ done !
@@ -163,8 +163,8 @@ module _ {M : Type 1} (𝓤 : URA M) (H : Heap 𝓤) (A : Atoms 𝓤) (W : Given
         land ! (from ! (stop !)) (init ! 14 refl (LL.lawful S.the-type S′.the-laws 𝓤 H A W .typed r _ is-r .0)) $
         assigns ! (addr ! (from ! (fld ! refl (hop ! (look-in ! 6 (sub ! 0 refl (whole !))) (stop !))))) (from ! (stop !)) (init ! 22 refl (tt, tt)) $
         assigns ! (agg ! (and-then ! (load ! (from ! (stop !)) (look ! 22 refl)) (and-then ! (load ! (from ! (fld ! refl (stop !))) (look-in ! 6 (sub ! 1 refl (whole !)))) (no-more !)))) (from ! (stop !)) (init ! 24 refl (tt, (tt, (record { fits = room .0 }, tt)))) $
-        calls-put-back ! (fmOf 𝓤 H (W .laws) 𝓣) at-mem run κ q γ b o ys room known-put-back (r .held) (LL.owed S.the-type S′.the-laws r _ is-r .0)
-        (and-then ! (load ! (from ! (stop !)) (look ! 22 refl)) (and-then ! (load ! (from ! (fld ! refl (stop !))) (look-in ! 12 (sub ! 0 refl (whole !)))) (no-more !)))
+        calls-put-back ! (fmOf 𝓤 H (W .laws) 𝓣) at-mem run κ q γ b o ys room known-put-back (r .held) (r .taken) (LL.owed S.the-type S′.the-laws r _ is-r .0)
+        (and-then ! (load ! (from ! (stop !)) (look ! 22 refl)) (and-then ! (load ! (from ! (fld ! refl (stop !))) (look-in ! 12 (sub ! 0 refl (whole !)))) (and-then ! (load ! (from ! (fld ! refl (stop !))) (look-in ! 12 (sub ! 2 refl (whole !)))) (no-more !))))
         -- [the row's last list; the token; the message's token], and local i at 3 + 2 i
         (land ! (from ! (stop !)) (init ! 19 refl (tt, tt)) $
         assigns ! (of-opd ! (load ! (from ! (fld ! refl (stop !))) (look-in ! 13 (sub ! 1 refl (whole !))))) (from ! (stop !)) (init ! 3 refl (EL.lawful A′.the-type A″.the-laws 𝓤 H A W tt .typed (r .called) _ (LL.owed S.the-type S′.the-laws r _ is-r .1 .0) .0)) $

@@ -130,10 +130,10 @@ module _ {M : Type 1} (𝓤 : URA M) (H : Heap 𝓤) (A : Atoms 𝓤) (W : Given
   Post = walkOf 𝓤 H A f.ended stayed (f.clauses 𝓤 H A at-mem run) .post (((κ, (κ′, tt)), (q, (q′, tt)), tt, x, at), tt)
 
   exits : (r : Played) (new : List ℕ) → Says 𝓤 H A at-mem run κ′ q′ c m r new → length new ≡ length ws → Is N.the-row (r .answer) (nval (r .answer) ∷ [])
-      → ent 𝓤 (⋆ 𝓤 H A (‵ (finally R γ (putBack (r .held) ys)) ∷ ‵ (flft κ q) ∷ ‵ (finally u32 γ′ new) ∷ ‵ (flft κ′ q′) ∷ [])) (Post (nval (r .answer)))
+      → ent 𝓤 (⋆ 𝓤 H A (‵ (finally R γ (putBack (r .held) (r .taken) ys)) ∷ ‵ (flft κ q) ∷ ‵ (finally u32 γ′ new) ∷ ‵ (flft κ′ q′) ∷ [])) (Post (nval (r .answer)))
   exits r new e long is =
-      qed W (‵ (finally R γ (putBack (r .held) ys)) ∷ ‵ (flft κ q) ∷ ‵ (finally u32 γ′ new) ∷ ‵ (flft κ′ q′) ∷ []) ∵
-      suffices ! _ (ends-at 𝓤 H A f.ended stayed (f.clauses 𝓤 H A at-mem run) W (((κ, (κ′, tt)), (q, (q′, tt)), tt, x, at), tt) (nval (r .answer)) (r .answer) (putBack (r .held) ys, (new, tt)) (put-length (r .held) ys, (long, tt))) $
+      qed W (‵ (finally R γ (putBack (r .held) (r .taken) ys)) ∷ ‵ (flft κ q) ∷ ‵ (finally u32 γ′ new) ∷ ‵ (flft κ′ q′) ∷ []) ∵
+      suffices ! _ (ends-at 𝓤 H A f.ended stayed (f.clauses 𝓤 H A at-mem run) W (((κ, (κ′, tt)), (q, (q′, tt)), tt, x, at), tt) (nval (r .answer)) (r .answer) (putBack (r .held) (r .taken) ys, (new, tt)) (put-length (r .held) (r .taken) ys, (long, tt))) $
       says ! (round-kept ys ws new r e) $
       nothing ! $ move ! (4 ∷ 0 ∷ []) $ join ! $ move ! (2 ∷ 0 ∷ []) $ join ! $ frame ! $ nothing ! $ move ! (2 ∷ 0 ∷ []) $ fjoin ! $ move ! (1 ∷ 0 ∷ []) $ fjoin ! $ frame ! $
       owned ! N.the-row (Is N.the-row) (LL.makes N.the-type N′.the-plain 𝓤 H A) (r .answer) _ is $ done !
@@ -166,8 +166,8 @@ module _ {M : Type 1} (𝓤 : URA M) (H : Heap 𝓤) (A : Atoms 𝓤) (W : Given
         rewrite ! 13 (λ (u : Val). ‵ (fat fullShare P′.mir (lies (envOf mir.locals bs) 4) 0 u)) (ap only (LL.tells P.the-type P′.the-laws r _ is)) refl $
         assigns ! (addr ! (from ! (fld ! refl (hop ! (look-in ! 7 (sub ! 0 refl (whole !))) (stop !))))) (from ! (stop !)) (init ! 25 refl (tt, tt)) $
         assigns ! (agg ! (and-then ! (load ! (from ! (stop !)) (look ! 25 refl)) (and-then ! (load ! (from ! (fld ! refl (stop !))) (look-in ! 7 (sub ! 1 refl (whole !)))) (no-more !)))) (from ! (stop !)) (init ! 27 refl (tt, (tt, (record { fits = room .0 }, tt)))) $
-        calls-put-back ! (fmOf 𝓤 H (W .laws) 𝓣) at-mem run κ q γ b o ys room known-put-back (r .held) (LL.owed P.the-type P′.the-laws r _ is .0)
-        (and-then ! (load ! (from ! (stop !)) (look ! 25 refl)) (and-then ! (load ! (from ! (fld ! refl (stop !))) (look-in ! 11 (sub ! 0 refl (whole !)))) (no-more !)))
+        calls-put-back ! (fmOf 𝓤 H (W .laws) 𝓣) at-mem run κ q γ b o ys room known-put-back (r .held) (r .taken) (LL.owed P.the-type P′.the-laws r _ is .0)
+        (and-then ! (load ! (from ! (stop !)) (look ! 25 refl)) (and-then ! (load ! (from ! (fld ! refl (stop !))) (look-in ! 11 (sub ! 0 refl (whole !)))) (and-then ! (load ! (from ! (fld ! refl (stop !))) (look-in ! 11 (sub ! 2 refl (whole !)))) (no-more !))))
         -- [the row's last list; the token; the words' last list; their token], and local i at 4 + 2 i
         (land ! (from ! (stop !)) (init ! 22 refl (tt, tt)) $
         assigns ! (of-opd ! (load ! (from ! (fld ! refl (stop !))) (look-in ! 12 (sub ! 1 refl (whole !))))) (from ! (stop !)) (init ! 4 refl (LL.lawful N.the-type N′.the-laws 𝓤 H A W .typed (r .answer) _ (LL.owed P.the-type P′.the-laws r _ is .1 .0) .0)) $

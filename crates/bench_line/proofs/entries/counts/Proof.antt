@@ -1,21 +1,21 @@
 -- `bench_line::counts` meets its contract: an array that is filled, place by place.
-use Prim.Native.Nat.{_-_}
+use Prim.Native.Nat.{_≤_, _-_}
 use mathlib.Core.Path.{refl}
 use Rattle.bench.specs.Stations.{mostStations}
 use Rattle.bench_line.specs.Entries.{clippedCount}
-use Rattle.bench_line.specs.EntryLaws.{Filled, each-start, each-more, each-all}
+use Rattle.bench_line.specs.EntryLaws.{Filled, each-start, each-more, each-rest, counts-rest}
 use borrow.Author.Needs.{needs}
 use Rattle.bench_line.proofs.entries.counts.Statement.{statement}
 use Rattle.bench_line.proofs.entries.counts.Tie as tie
 
 abbrev Inv-loop : tie.InvT-loop
-Inv-loop row all₀ i₀ all i = Filled clippedCount row all₀ all i
+Inv-loop places row all₀ i₀ all i = (i ≤ places) × (places ≤ mostStations) × Filled clippedCount row all₀ all i
 
 abbrev μ-loop : tie.MeasureT-loop
-μ-loop row all₀ i₀ all i = mostStations - i
+μ-loop places row all₀ i₀ all i = places - i
 
 loop-holds : tie.Need-loop-holds Inv-loop μ-loop
-loop-holds c = each-start clippedCount _ _ (search needs) refl
+loop-holds c = (search needs, c .pre .few, each-start clippedCount _ _ (search needs) refl)
 
 mul-station : tie.Need-mul-station Inv-loop μ-loop
 mul-station c = search needs
@@ -39,10 +39,10 @@ loop-less : tie.Need-loop-less Inv-loop μ-loop
 loop-less c = search needs
 
 loop-again : tie.Need-loop-again Inv-loop μ-loop
-loop-again c = each-more clippedCount (c .before .before .before .loop .inv) (search needs) _ _ (c .count-of .ensures)
+loop-again c = let l = c .before .before .before .loop in (search needs, l .inv .1, each-more clippedCount (l .inv .2) (search needs) _ _ (c .count-of .ensures))
 
 returns : tie.Need-returns Inv-loop μ-loop
-returns c = each-all clippedCount (c .before .loop .inv) (c .loop-test .left)
+returns c = let l = c .before .loop in let a = c .before .before in each-rest clippedCount (l .inv .2) _ (l .inv .1) _ (counts-rest _ _ (a .pre)) (c .loop-test .left) (l .inv .0)
 
 pub counts-spec : {M : Type 1} → statement M
 counts-spec =

@@ -1,21 +1,21 @@
 -- `bench_line::frames` meets its contract: an array that is filled, place by place.
-use Prim.Native.Nat.{_-_}
+use Prim.Native.Nat.{_≤_, _-_}
 use mathlib.Core.Path.{refl}
 use Rattle.bench.specs.Stations.{mostStations}
 use Rattle.bench_line.specs.Entries.{clippedFrame}
-use Rattle.bench_line.specs.EntryLaws.{Filled, each-start, each-more, each-all}
+use Rattle.bench_line.specs.EntryLaws.{Filled, each-start, each-more, each-rest, frames-rest}
 use borrow.Author.Needs.{needs}
 use Rattle.bench_line.proofs.entries.frames.Statement.{statement}
 use Rattle.bench_line.proofs.entries.frames.Tie as tie
 
 abbrev Inv-loop : tie.InvT-loop
-Inv-loop row all₀ i₀ all i = Filled clippedFrame row all₀ all i
+Inv-loop places row all₀ i₀ all i = (i ≤ places) × (places ≤ mostStations) × Filled clippedFrame row all₀ all i
 
 abbrev μ-loop : tie.MeasureT-loop
-μ-loop row all₀ i₀ all i = mostStations - i
+μ-loop places row all₀ i₀ all i = places - i
 
 loop-holds : tie.Need-loop-holds Inv-loop μ-loop
-loop-holds c = each-start clippedFrame _ _ (search needs) refl
+loop-holds c = (search needs, c .pre .few, each-start clippedFrame _ _ (search needs) refl)
 
 mul-station : tie.Need-mul-station Inv-loop μ-loop
 mul-station c = search needs
@@ -39,10 +39,10 @@ loop-less : tie.Need-loop-less Inv-loop μ-loop
 loop-less c = search needs
 
 loop-again : tie.Need-loop-again Inv-loop μ-loop
-loop-again c = each-more clippedFrame (c .before .before .before .loop .inv) (search needs) _ _ (c .frame-of .ensures)
+loop-again c = let l = c .before .before .before .loop in (search needs, l .inv .1, each-more clippedFrame (l .inv .2) (search needs) _ _ (c .frame-of .ensures))
 
 returns : tie.Need-returns Inv-loop μ-loop
-returns c = each-all clippedFrame (c .before .loop .inv) (c .loop-test .left)
+returns c = let l = c .before .loop in let a = c .before .before in each-rest clippedFrame (l .inv .2) _ (l .inv .1) _ (frames-rest _ _ (a .pre)) (c .loop-test .left) (l .inv .0)
 
 pub frames-spec : {M : Type 1} → statement M
 frames-spec =

@@ -1,6 +1,6 @@
 -- `bench_line::verdicts` meets its contract: an array that is filled, place by place.
 use Prim.Native.Nat.{_≤_, _-_}
-use mathlib.Core.Path.{_≡_, refl, _∙_, ap}
+use mathlib.Core.Path.{_≡_, _∙_, ap}
 use lib.ListN.{set}
 use Rattle.loops.specs.Scan.{filled, fill-start, fill-more}
 use Rattle.bench.specs.Stations.{mostStations}
@@ -10,13 +10,13 @@ use Rattle.bench_line.proofs.fares.verdicts.Statement.{statement}
 use Rattle.bench_line.proofs.fares.verdicts.Tie as tie
 
 abbrev Inv-loop : tie.InvT-loop
-Inv-loop counts lost all₀ i₀ all i = (i ≤ mostStations) × (all ≡ filled (verdictAt counts lost) all₀ i)
+Inv-loop counts lost places all₀ i₀ all i = (i ≤ places) × (places ≤ mostStations) × (all ≡ filled (verdictAt counts lost) all₀ i)
 
 abbrev μ-loop : tie.MeasureT-loop
-μ-loop counts lost all₀ i₀ all i = mostStations - i
+μ-loop counts lost places all₀ i₀ all i = places - i
 
 loop-holds : tie.Need-loop-holds Inv-loop μ-loop
-loop-holds c = (search needs, fill-start _ _)
+loop-holds c = (search needs, c .pre .few, fill-start _ _)
 
 mul-fared : tie.Need-mul-fared Inv-loop μ-loop
 mul-fared c = search needs
@@ -47,10 +47,10 @@ loop-less c = search needs
 
 loop-again : tie.Need-loop-again Inv-loop μ-loop
 unfolding verdictAt
-loop-again c = let l = c .before .before .before .before .loop in (search needs, ap (λ r. set r (l .i) (c .fared .result)) (l .inv .1) ∙ fill-more _ _ (l .i) (c .fared .result) _ (search needs) (c .fared .ensures))
+loop-again c = let l = c .before .before .before .before .loop in (search needs, l .inv .1, ap (λ r. set r (l .i) (c .fared .result)) (l .inv .2) ∙ fill-more _ _ (l .i) (c .fared .result) _ (search needs) (c .fared .ensures))
 
 returns : tie.Need-returns Inv-loop μ-loop
-returns c = let l = c .before .loop in verdicts-end _ _ _ _ (l .i) refl (c .loop-test .left) (l .inv .0) (l .inv .1)
+returns c = let l = c .before .loop in verdicts-end _ _ _ (c .before .before .pre) _ (l .i) (c .loop-test .left) (l .inv .0) (l .inv .2)
 
 pub verdicts-spec : {M : Type 1} → statement M
 verdicts-spec =

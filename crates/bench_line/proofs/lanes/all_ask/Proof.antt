@@ -10,19 +10,19 @@ use Rattle.bench_line.proofs.lanes.all_ask.Statement.{statement}
 use Rattle.bench_line.proofs.lanes.all_ask.Tie as tie
 
 abbrev Inv-loop : tie.InvT-loop
-Inv-loop counts frames shorts longs lost active j all₀ i₀ all i = (i ≤ mostStations) × (all ≡ allAsked active (drop i (asksAt (lanesOf counts frames shorts longs) lost active j)))
+Inv-loop counts frames shorts longs lost active j places all₀ i₀ all i = (i ≤ mostStations) × (all ≡ allAsked active (drop i (asksAt (lanesOf counts frames shorts longs) lost active j)))
 
 abbrev μ-loop : tie.MeasureT-loop
-μ-loop counts frames shorts longs lost active j all₀ i₀ all i = i
+μ-loop counts frames shorts longs lost active j places all₀ i₀ all i = i
 
 loop-holds : tie.Need-loop-holds Inv-loop μ-loop
-loop-holds c = (search needs, ask-start _ _ _ _)
+loop-holds c = (c .pre .1 .few, ask-start _ _ _ _ _ (c .pre .1))
 
 sub-i : tie.Need-sub-i Inv-loop μ-loop
 sub-i c = search needs
 
 asks-at-requires : tie.Need-asks-at-requires Inv-loop μ-loop
-asks-at-requires c κs = search needs
+asks-at-requires c κs = (search needs, c .before .before .pre .0)
 
 taken-in-requires : tie.Need-taken-in-requires Inv-loop μ-loop
 taken-in-requires c κs = search needs

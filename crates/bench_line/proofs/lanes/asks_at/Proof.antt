@@ -1,8 +1,9 @@
 -- `bench_line::asks_at` meets its contract: the place has lost, or asks by what there is of it at this bit.
-use mathlib.Core.Path.{sym}
+use mathlib.Core.Path.{sym, _∙_}
 use borrow.Author.Tests.{lt-ltb}
 use Rattle.bench_lane.specs.LaneLaws.{out-lost}
 use Rattle.bench_line.specs.Lanes.{laneAt}
+use Rattle.bench_line.specs.LoopLaws.{asks-by}
 use borrow.Author.Needs.{needs}
 use Rattle.bench_line.proofs.lanes.asks_at.Statement.{statement}
 use Rattle.bench_line.proofs.lanes.asks_at.Tie as tie
@@ -16,6 +17,9 @@ element-copy-out-lost-at c = search needs
 returns : tie.Need-returns
 unfolding laneAt
 returns c = sym (out-lost _ _ _ (lt-ltb _ _ (c .if1 .taken)))
+
+byte-of-requires : tie.Need-byte-of-requires
+byte-of-requires c κs = search needs
 
 mul-byte : tie.Need-mul-byte
 mul-byte c = search needs
@@ -48,8 +52,10 @@ asks-requires : tie.Need-asks-requires
 asks-requires c κs = search needs
 
 returns-2 : tie.Need-returns-2
-unfolding laneAt
-returns-2 c = c .asks .ensures
+returns-2 c =
+    let b = c .before .before .before .before .before in
+    let a = b .before .before .before in
+    c .asks .ensures ∙ asks-by _ _ _ _ (a .args .i) (a .pre .1 (a .args .i) (a .pre .0)) _ (b .byte-of .ensures)
 
 pub asks-at-spec : {M : Type 1} → statement M
 asks-at-spec =
@@ -58,6 +64,7 @@ asks-at-spec =
     mul-lost-at
     element-copy-out-lost-at
     returns
+    byte-of-requires
     mul-byte
     index-1-byte
     index-2-byte

@@ -1,26 +1,32 @@
--- `bench_line::hear` meets its contract: a filling of the bits at which the places lost, from the first on.
-use Prim.Native.Nat.{_≤_, _-_}
+-- `bench_line::hear` meets its contract: from the last place on each hears the bit, and what they ask at the next one is folded.
+use Prim.Native.Nat.{_+_, _≤_}
 use mathlib.Core.Path.{_≡_}
-use lib.ListN.{length}
-use Rattle.loops.specs.Scan.{filled, fill-start}
+use mathlib.Core.Bool.{not}
+use lib.ListN.{drop}
 use Rattle.bench.specs.Stations.{mostStations}
-use Rattle.bench_line.specs.Lanes.{lanesOf}
-use Rattle.bench_line.specs.LoopLaws.{heardAt, hear-more, hear-all}
+use Rattle.bench_line.specs.Lanes.{lanesOf, asksAt, allAsked, lostAll}
+use Rattle.bench_line.specs.LoopLaws.{mixed, ask-start, hear-start, hear-more, asks-more, hear-all}
 use borrow.Author.Needs.{needs}
 use Rattle.bench_line.proofs.lanes.hear.Statement.{statement}
 use Rattle.bench_line.proofs.lanes.hear.Tie as tie
 
 abbrev Inv-loop : tie.InvT-loop
-Inv-loop counts frames shorts longs lost₀ active j one i₀ lost i = (i ≤ mostStations) × (length lost₀ ≡ mostStations) × (lost ≡ filled (heardAt (lanesOf counts frames shorts longs) lost₀ active j one) lost₀ i)
+Inv-loop counts frames shorts longs lost₀ active j one places all₀ i₀ lost all i =
+    (i ≤ mostStations)
+    × (lost ≡ mixed (lanesOf counts frames shorts longs) lost₀ active j one i)
+    × (all ≡ allAsked (not active) (drop i (asksAt (lanesOf counts frames shorts longs) (lostAll (lanesOf counts frames shorts longs) lost₀ active j one) (not active) (j + 1))))
 
 abbrev μ-loop : tie.MeasureT-loop
-μ-loop counts frames shorts longs lost₀ active j one i₀ lost i = mostStations - i
+μ-loop counts frames shorts longs lost₀ active j one places all₀ i₀ lost all i = i
 
 loop-holds : tie.Need-loop-holds Inv-loop μ-loop
-loop-holds c = (search needs, search needs, fill-start _ _)
+loop-holds c = (c .pre .3 .few, hear-start _ _ _ _ _ _ (c .pre .3) (c .pre .2), ask-start _ _ _ _ _ (c .pre .3))
+
+sub-i : tie.Need-sub-i Inv-loop μ-loop
+sub-i c = search needs
 
 asks-at-requires : tie.Need-asks-at-requires Inv-loop μ-loop
-asks-at-requires c κs = search needs
+asks-at-requires c κs = (search needs, c .before .before .before .pre .0)
 
 mul-lost-by : tie.Need-mul-lost-by Inv-loop μ-loop
 mul-lost-by c = search needs
@@ -40,20 +46,28 @@ mul-lost c = search needs
 element-write-lost : tie.Need-element-write-lost Inv-loop μ-loop
 element-write-lost c = search needs
 
-add-i : tie.Need-add-i Inv-loop μ-loop
-add-i c = search needs
+add-asks-at : tie.Need-add-asks-at Inv-loop μ-loop
+add-asks-at c = search needs
+
+asks-at-requires-2 : tie.Need-asks-at-requires-2 Inv-loop μ-loop
+asks-at-requires-2 c κs = (search needs, c .before .before .before .before .before .before .before .pre .0)
+
+taken-in-requires : tie.Need-taken-in-requires Inv-loop μ-loop
+taken-in-requires c κs = search needs
 
 loop-less : tie.Need-loop-less Inv-loop μ-loop
 loop-less c = search needs
 
 loop-again : tie.Need-loop-again Inv-loop μ-loop
 loop-again c =
-    let b = c .before .before .before .before in
-    let i : _ = b .before .loop .inv in
-    (search needs, i .1, hear-more _ _ _ _ _ (b .before .loop .i) (search needs) _ (i .2) _ (c .before .before .asks-at .ensures) _ (c .lost-by .ensures))
+    let h = c .before .before .before in
+    let t = h .before .before .before .before in
+    let l = t .before .loop in
+    let m = hear-more _ _ _ _ _ (l .i) (t .loop-test .taken) (l .inv .0) _ (l .inv .1) _ (h .before .before .asks-at .ensures) _ (h .lost-by .ensures) in
+    (search needs, m, asks-more _ _ _ _ _ (l .i) (t .loop-test .taken) (l .inv .0) _ m _ (c .before .asks-at2 .ensures) _ _ (l .inv .2) (c .taken-in .ensures))
 
 returns : tie.Need-returns Inv-loop μ-loop
-returns c = let i = c .before .loop .inv in hear-all _ _ _ _ _ (c .before .loop .i) (i .1) (c .loop-test .left) (i .0) _ (i .2)
+returns c = let l = c .before .loop in hear-all _ _ _ _ _ (l .i) (c .loop-test .left) _ (l .inv .1) _ (l .inv .2)
 
 pub hear-spec : {M : Type 1} → statement M
 hear-spec =
@@ -62,6 +76,7 @@ hear-spec =
     Inv-loop
     μ-loop
     loop-holds
+    sub-i
     asks-at-requires
     mul-lost-by
     element-copy-out-lost-by
@@ -69,7 +84,9 @@ hear-spec =
     lost-by-requires
     mul-lost
     element-write-lost
-    add-i
+    add-asks-at
+    asks-at-requires-2
+    taken-in-requires
     loop-less
     loop-again
     returns)
