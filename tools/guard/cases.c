@@ -192,6 +192,20 @@ static void rows(unsigned times) {
     }
 }
 
+/* Every call on a row of ten million, whose first 32 stations alone are there. */
+static void long_rows(void) {
+    enum { THERE = 32, CLAIMED = 10000000 };
+    static j1850_station row[THERE];
+    static const uint8_t message[1];
+    for (size_t k = 0; k < THERE; k++)
+        row[k].clock = (j1850_clock){64, 128, 200};
+    slice there = in(row, THERE, sizeof *row);
+    long_row((job){.which = LOAD, .lent = {there, in(message, 1, 1)}}, CLAIMED);
+    long_row((job){.which = WITHDRAW, .lent = {there}}, CLAIMED);
+    long_row((job){.which = SET_CLOCK, .clock = {64, 128, 200}, .lent = {there}}, CLAIMED);
+    long_row((job){.which = ROUND, .lent = {there, in(words, J1850_FRAME_WORDS, 4)}}, CLAIMED);
+}
+
 static void desk(unsigned times, const uint8_t *recording, size_t length) {
     static uint8_t input[65536];
     for (unsigned i = 0; i < times; i++) { /* the whole recording, no bytes, one word too few, one byte too few; then any */
@@ -218,5 +232,6 @@ void all_cases(unsigned times, const uint8_t *recording, size_t length) {
     frames(400 * times);
     live(10 * times);
     rows(400 * times);
+    long_rows();
     desk(10 + times, recording, length);
 }

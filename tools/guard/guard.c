@@ -156,6 +156,14 @@ static void take_back(int i, slice s, bool high, const void *at, const void *wan
         fail("a page does not become writable");
 }
 
+/* Whether an answer may store to what is lent at a place of the call. A refusal may not store anywhere, and the desk not to
+   its words after a bad input. */
+static bool may_store(const job *j, uint64_t number, int i) {
+    if (number == J1850_BAD_INPUT)
+        return i == 2;
+    return j->lent[i].writable && (number < J1850_REFUSED_POSITION || number > J1850_REFUSED_DESK_LENT);
+}
+
 void trial(job wanted) {
     void *exact[3];
     void *at[3];
@@ -170,6 +178,8 @@ void trial(job wanted) {
     }
     size_t n = say(&wanted, exact, first);
     tally[wanted.which][first[0] & 63]++;
+    for (int i = 0; i < 3; i++) /* from here on what may not be stored to lies on pages that cannot be written */
+        wanted.lent[i].writable = may_store(&wanted, first[0], i);
     for (int high = 0; high < 2; high++) {
         for (int i = 0; i < 3; i++)
             at[i] = lend(i, wanted.lent[i], high);
@@ -181,6 +191,23 @@ void trial(job wanted) {
     }
     for (int i = 0; i < 3; i++)
         free(exact[i]);
+}
+
+/* A row that is too long, of which no more than the first stations are there: 38 does not look at the others. */
+void long_row(job wanted, size_t claimed) {
+    uint64_t said[SAID];
+    void *at[3];
+    for (int i = 0; i < 3; i++) {
+        wanted.lent[i].writable = false;
+        at[i] = lend(i, wanted.lent[i], true);
+    }
+    job asked = wanted;
+    asked.lent[0].count = claimed;
+    say(&asked, at, said);
+    if (said[0] != J1850_REFUSED_ROW_SIZE)
+        fail("a row that is too long is not refused");
+    for (int i = 0; i < 3; i++)
+        take_back(i, wanted.lent[i], true, at[i], wanted.lent[i].data);
 }
 
 #define EACH_FAULT                                                                                                               \
@@ -221,7 +248,7 @@ static void report(void) {
             }
             sum += times;
         }
-    printf("guard: %lu calls, each at both ends of its memory; every answer occurred; nothing that is not lent was touched\n", sum);
+    printf("guard: %lu calls, each at both ends of its memory; every answer occurred; nothing that is not lent was touched, and a refusal stored nothing\n", sum);
 }
 
 /* The longest frame, of 101 words: 12 bytes with the check byte, the last of them a response. */

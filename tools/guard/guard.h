@@ -1,6 +1,7 @@
 /*
  * Calls of the library with all that is lent to them: each is made three times, with memory of exactly the lent size, and
- * with lent memory against a page that cannot be touched, first at its low end and then at its high end.
+ * with lent memory against a page that cannot be touched, first at its low end and then at its high end. Where the first
+ * call was refused, all lent memory of the other two is on pages that cannot be written.
  */
 #ifndef GUARD_H
 #define GUARD_H
@@ -28,8 +29,12 @@ typedef struct {
     slice lent[3];
 } job;
 
-/* Makes a call three times and compares; ends the program where it touches what is not lent, or answers otherwise. */
+/* Makes a call three times and compares; ends the program where it touches what is not lent, where it is refused and stores,
+   or where it answers otherwise. */
 void trial(job wanted);
+
+/* Makes a call on a row of so many stations, of which only those that the job has are there. */
+void long_row(job wanted, size_t claimed);
 
 /* How often a call answered with a number. */
 extern unsigned long tally[CALLS][64];
