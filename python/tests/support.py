@@ -5,12 +5,10 @@ import pathlib
 import sys
 import unittest
 
+from j1850 import cli, find
+from j1850.trouble import Trouble
+
 ROOT = pathlib.Path(__file__).resolve().parent.parent.parent
-sys.path.insert(0, str(ROOT / "python"))
-
-from j1850 import cli, find  # noqa: E402
-from j1850.trouble import Trouble  # noqa: E402
-
 TRUCK = str(ROOT / "examples" / "truck.txt")
 
 

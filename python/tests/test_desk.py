@@ -5,6 +5,8 @@ import re
 import tempfile
 import unittest
 
+from j1850 import cli
+
 from .support import ROOT, TRUCK, needs_library, run
 
 EXPECTED = (ROOT / "crates" / "desk" / "stdout").read_text()
@@ -19,7 +21,7 @@ class Pages(unittest.TestCase):
         self.assertEqual(run("--version"), (0, f"j1850 {version}\n", ""))
 
     def test_help(self):
-        for command in ("desk", "send", "live"):
+        for command in cli.COMMANDS:
             status, out, err = run(command, "--help")
             self.assertEqual((status, err), (0, ""))
             self.assertIn("Exit status", out)
