@@ -32,7 +32,9 @@ def parser():
 
 
 def main(arguments=None):
-    """Runs a command, and answers its exit status."""
+    """Runs a command, and answers its exit status. A name that the terminal has no signs for is written with escapes."""
+    if hasattr(sys.stdout, "reconfigure"):
+        sys.stdout.reconfigure(errors="backslashreplace")
     try:
         options = parser().parse_args(arguments)
         return COMMANDS[options.command].run(options)

@@ -49,6 +49,8 @@ class Reader:
             raise Bad("a station has a name")
         if self.begun:
             raise Bad("the stations stand before all else")
+        if not words[0].isprintable():
+            raise Bad("a name has a sign that cannot be printed")
         if words[0] in self.names:
             raise Bad(f"a station is named {words[0]!r} already")
         self.names.append(words[0])

@@ -29,7 +29,7 @@ class Text(unittest.TestCase):
     def test_a_bad_line_is_told_with_its_number(self):
         for bad in ("stations a", "station", "load", "load b 00", "load a 0", "load a xx", "withdraw", "withdraw a a", "clock a short",
                     "clock a wide 3", "clock a short -3", "clock a short 4294967296", "round 0", "round -1", "round 1 2", "round x",
-                    "round 10001", "station a", "\0"):
+                    "round 10001", "station a", "station \x01", "\0"):
             with self.assertRaises(Trouble, msg=bad) as caught:
                 scenario.steps("x", f"station a\n{bad}\n".encode())
             self.assertTrue(str(caught.exception).startswith("x: line 2: "), caught.exception)
