@@ -179,5 +179,5 @@ def draw(played):
     ends += [drawing.x(drawing.starts[-2]) + 28 + svg.room("got through", 15), LEFT + svg.room(title(played), 18)]
     inner = svg.text(12, 28, title(played), class_="title") + axis(drawing) + threads(drawing)
     inner += "".join(lane_of(drawing, lane, TOP + LANE * place) for place, lane in enumerate(played.lanes))
-    cursor = svg.rect(0, TOP - 6, 0, drawing.floor + 40 - TOP, id="cursor", fill="none", stroke=svg.INK, stroke_width=2, visibility="hidden")
+    cursor = svg.rect(0, TOP - 6, 0, drawing.floor + 76 - TOP, id="cursor", fill="none", stroke=svg.INK, stroke_width=2, visibility="hidden")
     return svg.picture(max(ends) + 20, drawing.floor + FOOT + 20, title(played), inner + line_of(drawing) + cursor)
