@@ -1,4 +1,4 @@
-"""Sees what examples/python/j1850.py says of lent memory: an array is lent as it is, and reading a whole recording takes a time that
+"""Sees what python/j1850/library.py says of lent memory: an array is lent as it is, and reading a whole recording takes a time that
 grows with its length alone. Needs a Python for x86-64.
 
     python3 tools/python_check.py target/library/libj1850.so
@@ -9,7 +9,7 @@ import os
 import sys
 import time
 
-sys.path.insert(0, os.path.join(os.path.dirname(os.path.abspath(__file__)), "..", "examples", "python"))
+sys.path.insert(0, os.path.join(os.path.dirname(os.path.abspath(__file__)), "..", "python"))
 import j1850  # noqa: E402
 
 FAULTS = [300, 64]  # an opening, and a bit where the start of frame should stand

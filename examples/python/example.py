@@ -3,9 +3,11 @@ arbitration of three stations and prints the desk's text. examples/expected.txt 
 
     python3 examples/python/example.py target/library/libj1850.so examples/truck.txt
 """
+import os
 import sys
 
-import j1850
+sys.path.insert(0, os.path.join(os.path.dirname(os.path.abspath(__file__)), "..", "..", "python"))  # unless it is installed
+import j1850  # noqa: E402
 
 
 def spaced(data):

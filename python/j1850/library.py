@@ -1,6 +1,6 @@
 """The library's calls for Python, by ctypes. include/j1850.h says what each call takes and answers.
 
-    line = j1850.Library("target/library/libj1850.so")
+    line = j1850.Library("target/library/libj1850.so")     # or j1850.found(), which looks for it
     line.check_byte(b"\\xff")
 
 Bytes, lists and arrays go in, and bytes, lists and the answers' structs come out. A list is copied at each call; an
@@ -12,6 +12,7 @@ import ctypes
 from ctypes import POINTER, Structure, byref, c_bool, c_float, c_size_t, c_uint8, c_uint32, c_uint64
 
 NOISE, BIT_0, BIT_1, EOD, SOF, EOF, IFS, BREAK, STUCK = range(9)
+SYMBOLS = ("noise", "bit 0", "bit 1", "EOD", "SOF", "EOF", "IFS", "break", "stuck")
 WITHOUT, PLAIN, CHECKED = range(3)
 IDLE, THROUGH, LOST = range(3)
 FRAME_BYTES, FRAME_WORDS, DESK_WORDS, DESK_TEXT = 12, 101, 16384, 442463

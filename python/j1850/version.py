@@ -1,0 +1,3 @@
+"""The version of the header that the package goes with."""
+
+VERSION = "1.0"
