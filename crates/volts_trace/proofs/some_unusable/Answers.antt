@@ -6,15 +6,13 @@ use Rattle.volts_trace.proofs.some_unusable.Goals as goal
 
 pub returns-then-unusable : goal.returns-then-unusable
 returns-then-unusable c =
-    let test = c in
-    scan_stops _ _ _ test.loop-i.invariant.1 test.loop-i-test.true c.judge.ensures c.unusable.ensures c.if-unusable.true
+    scan_stops _ _ _ c.loop-i.invariant.1 c.loop-i-test.true c.judge.ensures c.unusable.ensures c.if-unusable.true
 
 pub loop-i-preserved : goal.loop-i-preserved
-loop-i-preserved c =
-    let test = c in (
-      search rules,
-      scan_goes_on _ _ _ test.loop-i.invariant.1 test.loop-i-test.true c.judge.ensures c.unusable.ensures c.if-unusable.false,
-    )
+loop-i-preserved c = (
+  search rules,
+  scan_goes_on _ _ _ c.loop-i.invariant.1 c.loop-i-test.true c.judge.ensures c.unusable.ensures c.if-unusable.false,
+)
 
 pub returns : goal.returns
 returns c = scan_ends _ _ _ c.loop-i.invariant.1 c.loop-i-test.false
