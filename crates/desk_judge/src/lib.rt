@@ -1,5 +1,7 @@
 // Judging the desk's input: its labels and widths, or the number of its first bad line. What a good line is, and which line
 // is the first bad one, is defined in `desk_text`.
+#![tactic(auto)]
+
 ghost use Rattle.std.specs.Prelude.{◌≡◌, ◌≤◌, length};
 ghost use Rattle.desk_text.specs.Input.{lines, most_widths, bad_from};
 ghost use Rattle.desk_text.specs.Promise.{JudgePromise};
