@@ -1,4 +1,6 @@
 // Why the first bad line of an input is bad. The desk's text says only which line it is; people are told this besides.
+#![tactic(auto)]
+
 ghost use Rattle.std.specs.Prelude.{◌≡◌};
 ghost use Rattle.desk_text.specs.Input.{lines};
 ghost use Rattle.desk_reason.specs.Reasons.{reason_at, reason_of, first_of, ends_in_return, open_reason, closed_reason};
