@@ -14,7 +14,7 @@ pub const MOST_SENT: usize = MOST_STORED + 1;
 // A station of the row: its clock and its stored message, the first `len` of its bytes. A station of length 0 is empty;
 // what its bytes then hold counts for nothing. Laid out as C has it, since other languages lend a row of them.
 #[repr(C)]
-#[derive(Drop)]
+#[derive(Clone, Copy)]
 pub struct Station {
     pub clock: Clock,
     pub bytes: [u8; MOST_STORED],
@@ -23,7 +23,7 @@ pub struct Station {
 
 // How a place fared in a round: it held no message; its message went out whole; or it had to stop at a bit, counted from
 // 1 after the SOF.
-#[derive(Drop)]
+#[derive(Clone, Copy)]
 pub enum Fared {
     Idle,
     Through,
@@ -31,13 +31,13 @@ pub enum Fared {
 }
 
 // How a place fared, as one of the 32 verdicts of a round.
-#[derive(Drop)]
+#[derive(Clone, Copy)]
 pub struct Verdict {
     pub fared: Fared,
 }
 
 // What loading, withdrawing and setting a clock answer. All but Done are refusals, and change nothing.
-#[derive(Drop)]
+#[derive(Clone, Copy)]
 pub enum Called {
     Done,
     RowSize,
@@ -50,7 +50,7 @@ pub enum Called {
 }
 
 // Whether a round was played, or why it was turned away.
-#[derive(Drop)]
+#[derive(Clone, Copy)]
 pub enum RoundTold {
     Played,
     RowSize,
@@ -61,7 +61,7 @@ pub enum RoundTold {
 
 // What a round answers: how each of 32 places fared, idle past the row, with the number of words written and the line
 // time. Where the round was turned away nothing was written, all places are idle, and both numbers are 0.
-#[derive(Drop)]
+#[derive(Clone, Copy)]
 pub struct RoundAnswer {
     pub told: RoundTold,
     pub verdicts: [Verdict; MOST_STATIONS],

@@ -12,7 +12,7 @@ use bench_row::HeldRow;
 use symbol::Clock;
 
 // What a call answers, the held row after it, and whether the call was taken: where it was not, nothing is put back.
-#[derive(Drop)]
+#[derive(Clone, Copy)]
 pub struct Changed {
     pub held: HeldRow,
     pub called: Called,

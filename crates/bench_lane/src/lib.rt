@@ -8,7 +8,7 @@ pub const BITS_OF_BYTE: usize = 8;
 
 // What a place asks of the line at a bit: nothing, because it is out of the round or was never in it; nothing, because
 // it has sent its check byte; or a bit, a 1 or not, of a width.
-#[derive(Drop)]
+#[derive(Clone, Copy)]
 pub enum Ask {
     Out,
     Ended,
@@ -16,7 +16,7 @@ pub enum Ask {
 }
 
 // What places together ask of the line: whether anybody asks, and how long the bit lasts.
-#[derive(Drop)]
+#[derive(Clone, Copy)]
 pub struct LineAsk {
     pub some: bool,
     pub width: u32,

@@ -16,7 +16,7 @@ mod sending;
 pub use sending::BEFORE_BITS;
 
 // How many bits were sent, and how each of 32 places fared.
-#[derive(Drop)]
+#[derive(Clone, Copy)]
 pub struct Contended {
     pub bits: usize,
     pub verdicts: [Verdict; MOST_STATIONS],

@@ -16,7 +16,7 @@ use symbol::END_SENT;
 use units::Micros;
 
 // What a round answers, the held row after it, and whether the round was taken: where it was not, nothing is put back.
-#[derive(Drop)]
+#[derive(Clone, Copy)]
 pub struct Played {
     pub held: HeldRow,
     pub answer: RoundAnswer,

@@ -46,7 +46,7 @@ fn is_sound(station: Station) -> bool
 
 // What is asked of a row: whether every station is sound, whether every one is empty, and the longest SOF that a holder
 // asks for.
-#[derive(Drop)]
+#[derive(Clone, Copy)]
 pub struct Survey {
     pub sound: bool,
     pub empty: bool,

@@ -9,14 +9,14 @@ use units::Micros;
 
 // What loading, withdrawing and setting a clock answer: document 01's number.
 #[repr(C)]
-#[derive(Drop)]
+#[derive(Clone, Copy)]
 pub struct CallAnswer {
     pub number: u32,
 }
 
 // How a place fared, by its number, and the bit at which it lost; 0 unless it lost.
 #[repr(C)]
-#[derive(Drop)]
+#[derive(Clone, Copy)]
 pub struct Verdict {
     pub fared: u32,
     pub bit: usize,
@@ -24,7 +24,7 @@ pub struct Verdict {
 
 // What a round answers. Where it was turned away all places are idle, and both counts are 0.
 #[repr(C)]
-#[derive(Drop)]
+#[derive(Clone, Copy)]
 pub struct RoundAnswer {
     pub number: u32,
     pub line_time: u32,

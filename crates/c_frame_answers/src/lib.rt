@@ -17,7 +17,7 @@ use volts::Traced;
 
 // The check byte of some bytes.
 #[repr(C)]
-#[derive(Drop)]
+#[derive(Clone, Copy)]
 pub struct Check {
     pub number: u32,
     pub check: u8,
@@ -25,7 +25,7 @@ pub struct Check {
 
 // The symbol of an interval, by its number.
 #[repr(C)]
-#[derive(Drop)]
+#[derive(Clone, Copy)]
 pub struct Class {
     pub number: u32,
     pub symbol: u32,
@@ -33,7 +33,7 @@ pub struct Class {
 
 // Whether a clock lies in the sending windows.
 #[repr(C)]
-#[derive(Drop)]
+#[derive(Clone, Copy)]
 pub struct Timed {
     pub number: u32,
     pub good: bool,
@@ -41,7 +41,7 @@ pub struct Timed {
 
 // How many words were written.
 #[repr(C)]
-#[derive(Drop)]
+#[derive(Clone, Copy)]
 pub struct Counted {
     pub number: u32,
     pub count: usize,
@@ -49,7 +49,7 @@ pub struct Counted {
 
 // What reading answers. A value that the answer does not have is 0.
 #[repr(C)]
-#[derive(Drop)]
+#[derive(Clone, Copy)]
 pub struct Read {
     pub number: u32,
     pub kind: u32,
@@ -61,7 +61,7 @@ pub struct Read {
 
 // What the desk answers: how many bytes of text were laid, and where the input is bad its first bad line.
 #[repr(C)]
-#[derive(Drop)]
+#[derive(Clone, Copy)]
 pub struct Desk {
     pub number: u32,
     pub line: usize,

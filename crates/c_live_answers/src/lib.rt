@@ -8,7 +8,7 @@ use live_answer::Heard;
 
 // What an interval answers. A value that the answer does not have is 0.
 #[repr(C)]
-#[derive(Drop)]
+#[derive(Clone, Copy)]
 pub struct HeardAnswer {
     pub number: u32,
     pub kind: u32,
@@ -20,7 +20,7 @@ pub struct HeardAnswer {
 
 // What asking answers. A quiet reader has no opening: 0.
 #[repr(C)]
-#[derive(Drop)]
+#[derive(Clone, Copy)]
 pub struct AskedAnswer {
     pub number: u32,
     pub next: u64,

@@ -1,5 +1,7 @@
 // The check byte of SAE J1850. The register's step for one byte is one call, so that whoever feeds bytes, here or above,
 // does not see how it is worked out.
+#![tactic(auto)]
+
 ghost use Rattle.std.specs.Prelude.{◌≡◌};
 ghost use Rattle.checkbyte.specs.Register.{shift, step_of, register_from, check_from, check_of};
 

@@ -9,7 +9,7 @@ use desk_text::{MOST_TEXT, MOST_WIDTHS};
 use frame::{Reading, Response};
 
 // Where reading goes on after an answer, or that it does not.
-#[derive(Drop)]
+#[derive(Clone, Copy)]
 pub enum Next {
     At(usize),
     Nowhere,

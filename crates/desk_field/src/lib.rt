@@ -8,7 +8,7 @@ ghost use Rattle.desk_field.specs.Widths.{number_of, width_of};
 const PAST_U32: u64 = 4294967296;
 
 // A width that is found where one should stand, or none.
-#[derive(Drop)]
+#[derive(Clone, Copy)]
 pub enum Width {
     Of(u32),
     Not,

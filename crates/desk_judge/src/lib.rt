@@ -21,7 +21,7 @@ const FIRST_WIDTH_LINE: usize = 2;
 const WIDTH: usize = 3;
 
 // The labels of a first line, or none.
-#[derive(Drop)]
+#[derive(Clone, Copy)]
 enum Own {
     Of(Labels),
     Not,

@@ -11,7 +11,7 @@ const NEWLINE: u8 = 10;
 const CARRIAGE_RETURN: u8 = 13;
 
 // Why a line is bad.
-#[derive(Drop)]
+#[derive(Clone, Copy)]
 pub enum Reason {
     // there is no such line
     Missing,

@@ -69,7 +69,7 @@ fn put_line(
 }
 
 // Where the line of an answer ends, and where reading goes on.
-#[derive(Drop)]
+#[derive(Clone, Copy)]
 pub(crate) struct Step {
     pub end: usize,
     pub next: Next,

@@ -8,7 +8,7 @@ pub const MOST_TEXT: usize = 442463;
 
 // How many bytes each label of a good input has. The customer's stands after `own` and a tab, the vehicle's after it and
 // another tab.
-#[derive(Drop)]
+#[derive(Clone, Copy)]
 pub struct Labels {
     pub customer: usize,
     pub vehicle: usize,
@@ -16,7 +16,7 @@ pub struct Labels {
 
 // What judging an input answers: its labels and the number of its widths, which then stand first in the lent words; or the
 // number of its first bad line; or that too little is lent. Only a good input changes anything.
-#[derive(Drop)]
+#[derive(Clone, Copy)]
 pub enum JudgedInput {
     Good { labels: Labels, widths: usize },
     Bad { line: usize },
@@ -26,7 +26,7 @@ pub enum JudgedInput {
 // What the desk answers: how many bytes of text stand first in the lent bytes, and, where that text is a refusal of the input,
 // the number of its first bad line. The widths of a good input stand first in the lent words; a bad one leaves them as they
 // were. FewLent is a refusal of the call, and changes nothing.
-#[derive(Drop)]
+#[derive(Clone, Copy)]
 pub enum Answered {
     Report { length: usize },
     Refused { line: usize, length: usize },

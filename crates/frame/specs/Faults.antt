@@ -1,7 +1,7 @@
 -- Definitions.
 -- The faults of document 01's table "What reading answers": each row as a rule, in the order in which they are judged at one
 -- interval, and the fault of an interval by the first that holds.
-use Rattle.std.specs.Prelude.{ℕ, ◌+◌, ◌-◌, ◌%◌, ◌≡◌, Bool, true, false, cond, List, [], ◌∷◌, ◌++◌, ◌⊎◌, eqb, length, get_or, take}
+use Rattle.std.specs.Prelude.{ℕ, ◌-◌, ◌%◌, ◌≡◌, Bool, true, false, cond, List, [], ◌∷◌, ◌++◌, ◌⊎◌, eqb, length, get_or, take}
 use Rattle.laws.specs.Meant.{Test, both, is_not, set, equals, below}
 use Rattle.laws.specs.Rules.{Rule, rule, first_rule, FirstToHold}
 use Rattle.checkbyte.specs.Register.{check_of}

@@ -78,9 +78,9 @@ framed : (ws : List ℕ) (p lent : ℕ) (lengths : Lengths) (kind : Response) (o
     → told (Frame lengths kind o k) ≡ tells (reading ws p lent) → Read ws p lent lengths kind o.0 k.0
 framed ws p lent lengths kind o k e = go (reading ws p lent) (comes most_bytes (single ws) p lent) refl e
   where
-    by : (x : Outcome) (q : ℕ) → Decision most_bytes (single ws) q x → reading ws p lent ≡ x → told (Frame lengths kind o k) ≡ tells x → Read ws p lent lengths kind o.0 k.0
-    by x q (is_unfinished u) f d = zero_not (ap (λ t. t.number) d) (omega arith)
-    by x q (is_good {k = j} u v w) f d =
+    by : (q : ℕ) (x : Outcome) → Decision most_bytes (single ws) q x → reading ws p lent ≡ x → told (Frame lengths kind o k) ≡ tells x → Read ws p lent lengths kind o.0 k.0
+    by q x (is_unfinished u) f d = zero_not (ap (λ t. t.number) d) (omega arith)
+    by q x (is_good {k = j} u v w) f d =
         record {
           frame = frame_at (single ws) q j;
           is_good_law = f;
@@ -90,13 +90,13 @@ framed ws p lent lengths kind o k e = go (reading ws p lent) (comes most_bytes (
           opening_is = sym (ap (λ t. t.opening) d);
           next_is = sym (ap (λ t. t.next) d);
         }
-    by x q (is_faulty {k = j} u v) f d = zero_not (ap (λ t. t.number) d) v
+    by q x (is_faulty {k = j} u v) f d = zero_not (ap (λ t. t.number) d) v
 
     go : (x : Outcome) → ReadCase most_bytes (single ws) p lent x → reading ws p lent ≡ x → told (Frame lengths kind o k) ≡ tells x → Read ws p lent lengths kind o.0 k.0
     go x (is_past h) f d = zero_not (ap (λ t. t.number) d) (omega arith)
     go x (is_short h l) f d = zero_not (ap (λ t. t.number) d) (omega arith)
     go x (is_quiet h l) f d = zero_not (ap (λ t. t.number) d) (omega arith)
-    go x (is_opened {o = q} h l op) f d = by x q (decision most_bytes (single ws) q) f d
+    go x (is_opened {o = q} h l op) f d = by q x (decision most_bytes (single ws) q) f d
 
 module _ (lengths : Lengths) (main response rest : List ℕ) (m : lengths.main ≡ length main) (r : lengths.response ≡ length response) where
   main_taken_law : main_taken lengths ((main ++ response) ++ rest) ≡ without_check main

@@ -1,9 +1,11 @@
 // What reading and writing a frame answer: the types that callers see. The definitions of what the answers are stand in
 // specs/, in document 01's words; the code that works them out stands in the rooms above.
+#![tactic(auto)]
+
 use units::Place;
 
 // How a frame was answered by another controller: not at all, with bytes alone, or with bytes and a check byte of their own.
-#[derive(Drop)]
+#[derive(Clone, Copy)]
 pub enum Response {
     Without,
     Plain,
@@ -11,14 +13,14 @@ pub enum Response {
 }
 
 // How many bytes each part of a frame has, its check byte included.
-#[derive(Drop)]
+#[derive(Clone, Copy)]
 pub struct Lengths {
     pub main: usize,
     pub response: usize,
 }
 
 // What is wrong with the interval at fault: document 01's numbers 11 to 20.
-#[derive(Drop)]
+#[derive(Clone, Copy)]
 pub enum Fault {
     Noise,
     NoSof,
@@ -33,7 +35,7 @@ pub enum Fault {
 }
 
 // What an interval shows inside a frame: it is wrong by itself, a SOF, a bit, or what shuts a part, an EOD or an end.
-#[derive(Drop)]
+#[derive(Clone, Copy)]
 pub enum Sign {
     Wrong(Fault),
     Sof,
@@ -48,7 +50,7 @@ pub const MOST_BYTES: usize = 12;
 pub const MOST_WORDS: usize = 101;
 
 // What reading from a position answers. PastRecording and FewLentBytes are refusals, and change nothing.
-#[derive(Drop)]
+#[derive(Clone, Copy)]
 pub enum Reading {
     Frame {
         lengths: Lengths,
@@ -71,7 +73,7 @@ pub enum Reading {
 }
 
 // What writing a message answers: the number of words written, or a refusal, which changes nothing.
-#[derive(Drop)]
+#[derive(Clone, Copy)]
 pub enum Writing {
     Words(usize),
     BadClock,

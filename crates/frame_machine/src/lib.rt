@@ -12,7 +12,7 @@ use shut::close_part;
 
 // Where the next interval stands in the frame: at the place of the SOF or of the normalization bit, in the main part, or
 // in a response without or with a check byte.
-#[derive(Drop)]
+#[derive(Clone, Copy)]
 pub enum Phase {
     Sof,
     Normalization,
@@ -23,7 +23,7 @@ pub enum Phase {
 
 // What is known of a frame between two intervals: the bits of a byte that is not whole yet, after a leading 1; the check
 // register over this part; and how many bytes both parts have so far, and how many of them stand before this part.
-#[derive(Drop)]
+#[derive(Clone, Copy)]
 pub struct Machine {
     pub phase: Phase,
     pub partial: u8,
@@ -33,7 +33,7 @@ pub struct Machine {
 }
 
 // What an interval does to a frame.
-#[derive(Drop)]
+#[derive(Clone, Copy)]
 pub enum Event {
     Going,
     Byte(u8),
@@ -44,7 +44,7 @@ pub enum Event {
 // What an interval does, and what is known of the frame after it. The event stands first, and `push`, `bit`, `sof` and
 // `close_part` are each called from one place: so the compiler keeps all of it in registers, and reading is half as long as
 // it is otherwise.
-#[derive(Drop)]
+#[derive(Clone, Copy)]
 pub struct Stepped {
     pub event: Event,
     pub machine: Machine,

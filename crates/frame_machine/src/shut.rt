@@ -6,7 +6,7 @@ use crate::{Event, Machine, NO_BITS, Phase, Stepped, begin, fail};
 use frame::Fault;
 
 // What is asked of a part at its EOD or end: how many bytes at least, and whether the last of them is a check byte.
-#[derive(Drop)]
+#[derive(Clone, Copy)]
 struct Needed {
     fewest: usize,
     checked: bool,

@@ -1,5 +1,7 @@
 // The numbers that answers are told by. Document 01 has one for each fault, for what is no fault, and for each refusal; and
 // since enums do not cross to other languages, each symbol and each kind of response has one too.
+#![tactic(auto)]
+
 ghost use Rattle.std.specs.Prelude.{◌≡◌};
 ghost use Rattle.frame.specs.ReadPromise.{fault_number};
 ghost use Rattle.frame_numbers.specs.Numbers.{symbol_number, kind_number, kind_of};

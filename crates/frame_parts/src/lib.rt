@@ -7,7 +7,7 @@ use frame::{Lengths, MOST_BYTES, Response};
 use frame_machine::{Machine, Phase};
 
 // How many bytes each part has, its check byte included, and what response there is.
-#[derive(Drop)]
+#[derive(Clone, Copy)]
 pub struct Parts {
     pub lengths: Lengths,
     pub response: Response,

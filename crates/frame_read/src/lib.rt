@@ -17,7 +17,7 @@ use units::{Micros, Place};
 const PASSIVE: bool = false;
 
 // Where a search ends.
-#[derive(Drop)]
+#[derive(Clone, Copy)]
 enum Found {
     At(usize),
     Nowhere,

@@ -1,5 +1,7 @@
 // What the frame machine asks of plain values: what a symbol shows inside a frame, whether a part has too few bytes, and whether
 // its check byte is wrong.
+#![tactic(auto)]
+
 ghost use Rattle.std.specs.Prelude.{◌≡◌, ◌&&◌, not, ◌+◌, eqb, ltb};
 ghost use Rattle.checkbyte.specs.Register.{residue};
 ghost use Rattle.frame_tests.specs.Shown.{sign_for};

@@ -1,5 +1,7 @@
 // What a frame is written with, by value: whether a message is turned away, the words of a byte, and the words before a
 // response.
+#![tactic(auto)]
+
 ghost use Rattle.std.specs.Prelude.{◌≡◌, true, false, ◌||◌, eqb, ltb, leb};
 ghost use Rattle.symbol.specs.Sending.{bit_width};
 ghost use Rattle.frame.specs.Bits.{odd, bits_of_byte};
@@ -9,7 +11,7 @@ use frame::{MOST_BYTES, MOST_WORDS, Response};
 use symbol::Clock;
 
 // The words before the bytes of a response.
-#[derive(Drop)]
+#[derive(Clone, Copy)]
 pub struct Before {
     pub eod: u32,
     pub normalization: u32,

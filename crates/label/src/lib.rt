@@ -1,4 +1,6 @@
 // Whether bytes are a label. What a label is is defined in specs/, in document 01's words.
+#![tactic(auto)]
+
 ghost use Rattle.std.specs.Prelude.{◌≡◌};
 ghost use Rattle.label.specs.Labels.{among as among_of, every, label_byte, is_label};
 

@@ -10,7 +10,7 @@ use live_taken::{inside_frame, outside_frame};
 use units::{LongPlace, Micros};
 
 // What there is at the moment of asking: no frame has begun, or one is unfinished.
-#[derive(Drop)]
+#[derive(Clone, Copy)]
 pub enum Asked {
     Quiet { next: LongPlace },
     Unfinished { opening: LongPlace },

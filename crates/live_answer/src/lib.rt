@@ -10,7 +10,7 @@ use units::LongPlace;
 
 // What an interval answers: nothing yet, the frame that it closes, the fault that it is at, or a refusal, which changes
 // nothing.
-#[derive(Drop)]
+#[derive(Clone, Copy)]
 pub enum Heard {
     Nothing,
     Frame {
@@ -28,7 +28,7 @@ pub enum Heard {
 }
 
 // The reader after an interval, and what the interval answers.
-#[derive(Drop)]
+#[derive(Clone, Copy)]
 pub struct Fed {
     pub heard: Heard,
     pub live: Live,

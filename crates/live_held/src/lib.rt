@@ -13,7 +13,7 @@ use held::{inside_of, outside};
 // The places of a live reader: the place of the next interval, the position from which reading goes on, and the opening of
 // the frame that is being heard. `full` is not 0 once the last place has been heard.
 #[repr(C)]
-#[derive(Drop)]
+#[derive(Clone, Copy)]
 pub struct Places {
     pub next: u64,
     pub from: u64,
@@ -24,7 +24,7 @@ pub struct Places {
 // The frame that is being heard: what the frame machine holds of it, and its bytes so far. Phase 0 is no frame: no end has
 // been heard since the position from which reading goes on.
 #[repr(C)]
-#[derive(Drop)]
+#[derive(Clone, Copy)]
 pub struct Inside {
     pub count: usize,
     pub began: usize,
@@ -37,7 +37,7 @@ pub struct Inside {
 // A live reader, which its owner lends to each call. All of it is plain numbers, laid out as C has it and without padding:
 // whatever bytes it holds it is a reader, and one of zeros has heard nothing.
 #[repr(C)]
-#[derive(Drop)]
+#[derive(Clone, Copy)]
 pub struct Live {
     pub places: Places,
     pub inside: Inside,

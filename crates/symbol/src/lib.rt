@@ -1,5 +1,7 @@
 // Symbols: what an interval of the line is, by its level and its width, and with what width a bit is sent.
 // A level is a bool in every room: true is active, false is passive.
+#![tactic(auto)]
+
 ghost use Rattle.std.specs.Prelude.{◌≡◌, true, false};
 ghost use Rattle.symbol.specs.Classes.{class_of, end_of};
 ghost use Rattle.symbol.specs.Clocks.{within_of, good_of, nominal_clock};
@@ -8,7 +10,7 @@ ghost use Rattle.symbol.specs.Sending.{bit_width};
 use units::Micros;
 
 // The kinds of interval that document 01's table of widths tells apart.
-#[derive(Drop)]
+#[derive(Clone, Copy)]
 pub enum Symbol {
     Noise,
     Bit0,
@@ -24,7 +26,7 @@ pub enum Symbol {
 // The widths that a controller sends with: its short bit, its long bit, and its SOF, which is its EOD too. Laid out
 // as C has it, since other languages hand it over.
 #[repr(C)]
-#[derive(Drop)]
+#[derive(Clone, Copy)]
 pub struct Clock {
     pub short: Micros,
     pub long: Micros,
@@ -32,7 +34,7 @@ pub struct Clock {
 }
 
 // What a clock sends for a symbol at a level: an interval of some width, or none ever.
-#[derive(Drop)]
+#[derive(Clone, Copy)]
 pub enum Sent {
     For(Micros),
     Never,

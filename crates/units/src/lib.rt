@@ -3,15 +3,17 @@
 // no other room can mistake.
 
 // A place in a recording: the number of intervals that stand before it. Even places are passive, odd ones active.
-#[derive(Drop)]
+#![tactic(auto)]
+
+#[derive(Clone, Copy)]
 pub struct Place(pub usize);
 
 // A width: the time that an interval lasts, in microseconds. Laid out as C has it, since clocks hold widths and
 // other languages hand clocks over.
 #[repr(C)]
-#[derive(Drop)]
+#[derive(Clone, Copy)]
 pub struct Micros(pub u32);
 
 // A place in a recording that is read as it comes, counted in 64 bits.
-#[derive(Drop)]
+#[derive(Clone, Copy)]
 pub struct LongPlace(pub u64);

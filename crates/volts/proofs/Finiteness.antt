@@ -2,7 +2,6 @@
 -- difference has a finite minuend, and what a test `!finite(..)` says. Assumes nothing.
 use mathlib.Core.Path.{◌≡◌, refl, sym, ◌∙◌}
 use mathlib.Core.Bool.{Bool, true, false, cond, not, ◌&&◌, beq}
-use borrow.Author.Tests.{not-true, not-false}
 use lib.Ieee.{Float, nan, inf, fin, binary32, lt, neg, add, sub, of_bits}
 use Rattle.volts.specs.Judging.{is_finite}
 
@@ -40,8 +39,8 @@ difference (inf s) (fin t n d) = refl
 difference (fin s m e) o = refl
 
 -- what a test `!f(..)` says of the value that f is known to answer
-pub said_no : {r a : Bool} → r ≡ a → not r ≡ true → a ≡ false
-said_no {r} e h = sym e ∙ not-true r h
+pub said_no : {r a : Bool} → r ≡ a → r ≡ false → a ≡ false
+said_no e h = sym e ∙ h
 
-pub said_yes : {r a : Bool} → r ≡ a → not r ≡ false → a ≡ true
-said_yes {r} e h = sym e ∙ not-false r h
+pub said_yes : {r a : Bool} → r ≡ a → r ≡ true → a ≡ true
+said_yes e h = sym e ∙ h

@@ -1,6 +1,8 @@
 // From volts to intervals: the types that callers see, and what one sample says. What becomes of a trace is defined in
 // specs/; the code that goes over its samples stands in the room above.
 
+#![tactic(auto)]
+
 ghost use Rattle.std.specs.Prelude.{◌≡◌};
 ghost use Rattle.volts.specs.Judging.{is_finite, good_gate, against, judged};
 
@@ -11,7 +13,7 @@ pub const MOST_SAMPLES: usize = 16384;
 // and the level down to which it is passive. Between the two levels the line stays as it was. Laid out as C has it, since
 // other languages hand it over.
 #[repr(C)]
-#[derive(Drop)]
+#[derive(Clone, Copy)]
 pub struct Gate {
     pub offset: f32,
     pub active: f32,
@@ -20,7 +22,7 @@ pub struct Gate {
 
 // What one sample says, with its volts once the offset is taken away. An unusable sample has none: it, or what is left
 // after the subtraction, is no finite number.
-#[derive(Drop)]
+#[derive(Clone, Copy)]
 pub enum Judged {
     Active(f32),
     Passive(f32),
@@ -29,7 +31,7 @@ pub enum Judged {
 }
 
 // What came of a trace: how many intervals were written, or why none was.
-#[derive(Drop)]
+#[derive(Clone, Copy)]
 pub enum Traced {
     Intervals(usize),
     TooManySamples,

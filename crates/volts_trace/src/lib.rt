@@ -1,5 +1,7 @@
 // From volts to intervals, over a whole trace. A trace of samples, one a microsecond, becomes the widths of the stretches at
 // which the line stays passive or active, and every trace that cannot be trusted is turned away with a reason of its own.
+#![tactic(auto)]
+
 ghost use Rattle.std.specs.Prelude.{◌≡◌, ◌≤◌, ◌<◌, true, false, not, ◌++◌, length, drop};
 ghost use Rattle.std.specs.Bool.{beq};
 ghost use Rattle.volts.specs.Levels.{level_after, is_unusable};

@@ -3,8 +3,7 @@ use mathlib.Core.Path.{◌≡◌, refl}
 use mathlib.Core.Bool.{Bool, true, false, cond, beq}
 use Rattle.symbol.specs.declared.Clock.{Clock}
 use Rattle.symbol.specs.Sending.{bit_width}
-use Rattle.symbol.proofs.bit_width.Statement.{statement}
-use Rattle.symbol.proofs.bit_width.Tie as tie
+use Rattle.symbol.proofs.bit_width.Goals as goal
 
 short_where_same : (c : Clock) (active one : Bool) → bit_width c active one ≡ cond (beq active one) c.short c.long
 short_where_same c false false = refl
@@ -12,11 +11,8 @@ short_where_same c false true = refl
 short_where_same c true false = refl
 short_where_same c true true = refl
 
-returns : tie.Need-returns
-returns c = let a = c.before.before.args in rw (short_where_same a.clock a.active a.one, c.before.if1.true)
+pub returns-then-active-one : goal.returns-then-active-one
+returns-then-active-one c = let a = c.args in rw (short_where_same a.clock a.active a.one, c.if-active-one.true)
 
-returns-2 : tie.Need-returns-2
-returns-2 c = let a = c.before.before.args in rw (short_where_same a.clock a.active a.one, c.before.if1.false)
-
-pub bit_width_spec : {M : Type 1} → statement M
-bit_width_spec = tie.close (tie.spec returns returns-2)
+pub returns : goal.returns
+returns c = let a = c.args in rw (short_where_same a.clock a.active a.one, c.if-active-one.false)
