@@ -1,6 +1,6 @@
 -- Laws.
 -- Whatever a reader's bytes are, also such as no call has left there: a frame that it tells of has at most twelve bytes.
-use Rattle.std.specs.Prelude.{ℕ, ◌+◌, ◌-◌, ◌≤◌, Bool, true, false, cond, not, eqb, ltb}
+use Rattle.std.specs.Prelude.{ℕ, ◌+◌, ◌≤◌, Bool, true, false, cond, not, eqb, ltb}
 use Rattle.std.proofs.Common.{arith}
 use Rattle.frame.specs.Faults.{most_bytes}
 use Rattle.frame_machine.specs.declared.Phase.{Phase}

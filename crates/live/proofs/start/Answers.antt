@@ -2,12 +2,8 @@
 use mathlib.Core.Path.{refl}
 use Rattle.live_held.specs.Held.{outside}
 use Rattle.live.specs.Feeding.{started}
-use Rattle.live.proofs.start.Statement.{statement}
-use Rattle.live.proofs.start.Tie as tie
+use Rattle.live.proofs.start.Goals as goal
 
-returns : tie.Need-returns
+pub returns : goal.returns
 unfolding started outside
 returns c = refl
-
-pub start_spec : {M : Type 1} → statement M
-start_spec = tie.close (tie.spec returns)
