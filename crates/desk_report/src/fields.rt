@@ -10,7 +10,7 @@ pub(crate) fn put(s: &[u8], lent: &mut [u8], at: usize) -> usize
     requires { Space at s.now lent.old }
     ensures { Laid at s.now lent.old lent.new result }
 {
-    bytes::copy(s, &mut lent[at..]);
+    lent[at..at + s.len()].copy_from_slice(s);
     at + s.len()
 }
 
