@@ -39,15 +39,16 @@ space_next s t x h = record { fits = omega (arith, h.fits, x.ends, laid_long x, 
 
 -- ## Copied bytes
 
--- what copying s into `&mut out[at..at + s.len()]` leaves
+-- what copying s over `&mut out[at..at + s.len()]` leaves
 pub laid_copied : (s out ys : List ℕ) (at : ℕ) → at + length s ≤ length out → ys ≡ s
     → Laid at s out (put_mid at (at + length s - at) out ys) (at + length s)
 laid_copied s out ys at h e = record { ends = refl; lays = whole ∙ sym (sets-eq s out at h ∙ append_assoc (take at out) s (drop (at + length s) out)) }
   where
+    rest : post_of at (at + length s - at) out ≡ drop (at + length s) out
+    rest = drop-drop (at + length s - at) at out ∙ ap (λ (k : ℕ). drop k out) (omega arith)
+
     whole : take at out ++ (ys ++ post_of at (at + length s - at) out) ≡ take at out ++ (s ++ drop (at + length s) out)
-    whole =
-        let n : at + length s - at ≡ length s = omega arith in
-        rw (e, n, drop-drop)
+    whole = rw (e, rest) refl
 
 -- ## Decimal
 
