@@ -1,7 +1,6 @@
 -- `bench_lane::bit_of` meets its contract.
 use mathlib.Core.Path.{refl}
 use Rattle.bench_lane.specs.Lane.{bit_of}
-use borrow.Author.Rules.{rules}
 use Rattle.bench_lane.proofs.bit_of.Goals as goal
 
 pub returns : goal.returns
