@@ -1,5 +1,7 @@
 // The calls at one place of a row by value: loading, withdrawing and setting a clock. Each rule that turns a call away is
 // one test, and they stand in document 01's order.
+#![tactic(auto)]
+
 ghost use Rattle.std.specs.Prelude.{◌<◌, ◌≤◌, ◌≡◌, ◌||◌, eqb, ltb, length};
 ghost use Rattle.bench.specs.Stations.{most_stations, most_stored};
 ghost use Rattle.bench.specs.Calls as Calls;
@@ -106,7 +108,7 @@ fn loaded(station: Station, message: &[u8]) -> Station
 {
     let clock = station.clock;
     let mut stored = station.bytes;
-    bytes::copy(message, &mut stored);
+    stored[..message.len()].copy_from_slice(message);
     Station {
         clock,
         bytes: stored,

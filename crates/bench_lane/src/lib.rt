@@ -1,5 +1,7 @@
 // One place of a round at one bit: what it asks of the line, what it adds to what others ask, and where it loses. All by
 // value: the room above keeps the places and goes over them.
+#![tactic(auto)]
+
 ghost use Rattle.std.specs.Prelude.{min, ◌≡◌};
 ghost use Rattle.bench_lane.specs.Lane.{lane_of, bit_of, width_for, ask_of, outlasts_of, taken_in, lost_by};
 

@@ -47,7 +47,7 @@ fn frame_of(station: Station) -> [u8; MOST_SENT]
     let n = clip(station.len);
     let stored = station.bytes;
     let mut frame: [u8; MOST_SENT] = [0; MOST_SENT];
-    bytes::copy(&stored[..n], &mut frame);
+    frame[..n].copy_from_slice(&stored[..n]);
     frame[n] = checkbyte::check_byte(&stored[..n]);
     frame
 }

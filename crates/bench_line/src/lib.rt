@@ -1,5 +1,7 @@
 // The bits of a round on a row by value: what the stations bring to it, what the line does at each bit, who stops, and how
 // each place fares.
+#![tactic(auto)]
+
 ghost use Rattle.std.specs.Prelude.{◌≤◌, ◌≡◌, map, length};
 ghost use Rattle.frame.specs.Writing.{most_words};
 ghost use Rattle.bench_line.specs.Stated.{clipped};

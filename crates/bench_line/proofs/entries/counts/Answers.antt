@@ -1,0 +1,15 @@
+-- `bench_line::counts` meets its contract: an array that is filled, place by place.
+use mathlib.Core.Path.{refl}
+use Rattle.bench_line.specs.Entries.{clipped_count}
+use Rattle.bench_line.specs.EntryLaws.{each_start, each_more, each_rest, counts_rest}
+use borrow.Author.Rules.{rules}
+use Rattle.bench_line.proofs.entries.counts.Goals as goal
+
+pub loop-i-init : goal.loop-i-init
+loop-i-init c = (search rules, c.requires.few, each_start clipped_count _ _ (search rules) refl)
+
+pub loop-i-preserved : goal.loop-i-preserved
+loop-i-preserved c = let l = c.loop-i in (search rules, l.invariant.1, each_more clipped_count l.invariant.2 (search rules) _ _ c.count_of.ensures)
+
+pub returns : goal.returns
+returns c = let l = c.loop-i in let a = c in each_rest clipped_count l.invariant.2 _ l.invariant.1 _ (counts_rest _ _ a.requires) c.loop-i-test.false l.invariant.0
