@@ -16,8 +16,7 @@ loop-i-init c = (c.blanks-at.ensures ∙ gather_start c.args.row.now, omega arit
 -- one station more
 pub loop-i-preserved : goal.loop-i-preserved
 loop-i-preserved c =
-    let h : c.loop-i.i < length c.args.row.now = omega (arith, c.loop-i-test.true, c.kept-n.ensures) in
-    (
+    let h : c.loop-i.i < length c.args.row.now = omega (arith, c.loop-i-test.true, c.kept-n.ensures) in (
       ap (λ (l : List Station). set l c.loop-i.i (get_or c.args.row.now c.loop-i.i zeros)) c.loop-i.invariant.0 ∙ gather_more c.args.row.now c.loop-i.i zeros h,
       omega (arith, c.loop-i-test.true),
     )

@@ -17,13 +17,12 @@ loop-place-preserved c =
     let place : ℕ = c.loop-place.place in
     let next_at : ℕ → Station = λ i. get_or c.args.held.at i (get_or row i blank) in
     let h : place < length row = omega (arith, c.loop-place-test.true, c.put_count-n.ensures, put_few (length row) c.args.taken) in
-    let now : place < length c.loop-place.row = omega (arith, h, c.loop-place.auto.row) in
-    (
+    let now : place < length c.loop-place.row = omega (arith, h, c.loop-place.auto.row) in (
       ap (λ (l : List Station). set l place c.station_at-next.result) c.loop-place.invariant.0
-      ∙ fill_more next_at row place blank c.station_at-next.result h
-      (c.station_at-next.ensures
-      ∙ ap (get_or c.args.held.at place)
-      (get_d_any c.loop-place.row place _ blank now ∙ ap (λ (l : List Station). get_or l place blank) c.loop-place.invariant.0 ∙ fill_ahead next_at row place blank h)),
+          ∙ fill_more next_at row place blank c.station_at-next.result h
+          (c.station_at-next.ensures
+          ∙ ap (get_or c.args.held.at place)
+          (get_d_any c.loop-place.row place _ blank now ∙ ap (λ (l : List Station). get_or l place blank) c.loop-place.invariant.0 ∙ fill_ahead next_at row place blank h)),
       omega (arith, c.loop-place-test.true),
     )
 
