@@ -1,5 +1,4 @@
--- Machinery.
--- What the room below promises of the message, and a kind that is none of the three turned away.
+-- `c_calls::j1850_write` gives what the room below promises of the message, and turns away a kind that is none of the three.
 use Rattle.std.proofs.Common.{◌≤◌, ◌∙◌, arith, length}
 use Rattle.c_calls.proofs.ByKind.{no_kind, no_kind_kept, written_as}
 use Rattle.c_calls.proofs.j1850_write.Goals as goal

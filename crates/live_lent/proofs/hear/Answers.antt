@@ -1,4 +1,4 @@
--- Machinery.
+-- `live_lent::hear` meets its contract: a refusal, or what the live reader by value answers.
 use Rattle.std.proofs.Common.{sym, ap}
 use Rattle.live_answer.specs.declared.Fed.{Fed}
 use Rattle.live.specs.Refusing.{refused_so}

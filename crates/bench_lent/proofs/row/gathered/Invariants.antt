@@ -1,4 +1,4 @@
--- Machinery.
+-- The loop of `bench_lent::gathered` fills the places of the held row, from the first on.
 use Rattle.std.proofs.Common.{◌-◌, ◌≡◌, ◌≤◌}
 use Rattle.bench_lent.specs.Restoring.{gathered}
 use Rattle.bench_lent.proofs.row.gathered.Given as goal

@@ -1,4 +1,4 @@
--- Machinery.
+-- `bench_lent::load` meets its contract: what the held row answers and leaves, put back.
 use Rattle.std.proofs.Common.{subst, sym, List}
 use Rattle.bench.specs.declared.Station.{Station}
 use Rattle.bench.specs.Calls as Calls

@@ -1,4 +1,4 @@
--- Machinery.
+-- `bench_lent::put_back` meets its contract: a place more for each turn.
 use Rattle.std.proofs.Common.{◌≡◌, ◌<◌, ◌∙◌, ap, arith, length, get_or, set, ℕ, List}
 use Rattle.bench.specs.declared.Station.{Station}
 use Rattle.bench.specs.Stations.{blank}

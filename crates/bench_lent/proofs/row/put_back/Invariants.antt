@@ -1,4 +1,4 @@
--- Machinery.
+-- The loop of `bench_lent::put_back` stores into the places of the row, from the first on.
 use Rattle.std.proofs.Common.{◌-◌, ◌≡◌, ◌≤◌, ℕ, get_or}
 use Rattle.bench.specs.Stations.{blank}
 use Rattle.loops.specs.Scan.{filled}
