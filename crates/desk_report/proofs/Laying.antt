@@ -1,12 +1,12 @@
 -- Laws of laying text: one text after another, space for what is left, and how each function's stores lay its text.
 use Prim.Native.Nat.{ℕ, zero, suc, ◌+◌, ◌-◌, ◌*◌, ◌/◌, ◌%◌, ◌^◌, ◌≤◌, ◌<◌}
 use mathlib.Core.Path.{◌≡◌, refl, sym, ap, ◌∙◌}
-use mathlib.Core.List.{List, [], ◌∷◌, ◌++◌, append-nil, append_assoc}
+use mathlib.Core.List.{List, [], ◌∷◌, ◌++◌, append_assoc}
 use native.Mathlib.Numerals.{add-one}
 use native.Mathlib.Omega.{arith}
 use native.Mathlib.Nat.{pow-suc, pow-le-pow_right, le_trans}
-use lib.ListN.{length, get_or, take, drop, set, length-set, length-append, length-drop, drop_of_length-le}
-use lib.Seq.{sets, sets-eq, length-sets, take-length, take_all, drop-drop, drop-cons}
+use lib.ListN.{length, get_or, take, drop, set, length-set, length-append, drop_of_length-le}
+use lib.Seq.{sets, sets-eq, length-sets, drop-drop, drop-cons}
 use mathlib.Core.Logic.{◌⊎◌, inl, inr}
 use borrow.Author.Tests.{lt-ltb, le-ltb}
 use borrow.Rule.Slice.PartMut.{put_mid, post_of}

@@ -1,7 +1,5 @@
 -- `desk_report::put_hex` meets its contract: what is laid so far and the bytes left are the whole.
-use Rattle.desk_report.proofs.Laying.{Hexing, hexing_start, hexing_on, hexing_end, hexing_space, hexing_second}
-use lib.ListN.{length}
-use Prim.Native.Nat.{◌-◌}
+use Rattle.desk_report.proofs.Laying.{hexing_start, hexing_on, hexing_end, hexing_space, hexing_second}
 use borrow.Author.Rules.{rules}
 use Rattle.desk_report.proofs.fields.put_hex.Goals as goal
 

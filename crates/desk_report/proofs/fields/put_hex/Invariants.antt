@@ -1,4 +1,4 @@
-use Rattle.desk_report.proofs.Laying.{Hexing, hexing_start, hexing_on, hexing_end, hexing_space, hexing_second}
+use Rattle.desk_report.proofs.Laying.{Hexing}
 use lib.ListN.{length}
 use Prim.Native.Nat.{◌-◌}
 use Rattle.desk_report.proofs.fields.put_hex.Given as goal

@@ -1,7 +1,6 @@
 -- `desk_report::place` meets its contract, arm by arm.
 use mathlib.Core.Path.{sym, ap}
 use Rattle.desk_report.specs.Laying.{place_of}
-use borrow.Author.Rules.{rules}
 use Rattle.desk_report.proofs.lines.place.Goals as goal
 
 pub returns-in-Frame : goal.returns-in-Frame
