@@ -7,14 +7,14 @@ import re
 
 from antt import Source, Spec, names
 
-HOUSE = re.compile(r"^Rattle·(\w+)(?:·\w+)?\.specs\.(.+)$")
+HOUSE = re.compile(r"^Rattle\.(\w+)\.specs\.(.+)$")
 
 
 class Tree:
     def __init__(self, root):
         self.root, self.files, self.wrong = root, {}, set()
         rows = (root / "crates.txt").read_text(encoding="utf-8").splitlines()
-        self.crates = [r.split(":")[0].strip() for r in rows if ":" in r.split("#")[0]]
+        self.crates = [r.split()[0].rstrip(":") for r in rows if ":" in r.split("#")[0]]
 
     def file(self, name):
         """A file of crates/ by its name there, read; nothing where there is none."""
@@ -55,8 +55,10 @@ class Tree:
         if not house or house.group(1) not in self.crates:
             return None
         crate, steps = house.group(1), house.group(2).split(".")
+        if steps[0] == "contracts":  # made by the kit of a type or a contract
+            return None
         if steps[0] == "declared":
-            steps = [s for s in steps[1:] if s != "the-variants"]
+            steps = [s for s in steps[1:] if s != "TheVariants"]
             it = self.type(crate, steps[:-1] or ["lib"], steps[-1])
         else:
             spec = self.file(f"{crate}/specs/{'/'.join(steps)}.antt")
@@ -67,8 +69,8 @@ class Tree:
 
     def resolve(self, home, token):
         if "." in token:
-            alias, _, name = token.partition(".")
-            return self.lookup(home.aliases[alias], name) if alias in home.aliases else None
+            head, _, name = token.partition(".")
+            return self.lookup(home.aliases[head], name) if head in home.aliases else self.resolve(home, head)
         if token in home.named:
             return home.named[token]
         return self.lookup(*home.uses[token]) if token in home.uses else None
@@ -79,7 +81,7 @@ class Tree:
             it = self.lookup(path, old)
             if it and it.is_type and old != it.name:
                 out.add(new)
-        return out | {n for n, (path, _) in home.uses.items() if path.endswith(".the-variants")}
+        return out | {n for n, (path, _) in home.uses.items() if path.endswith(".TheVariants")}
 
     def spoken(self, it):
         """What a definition or a law speaks of, a proof left out."""
@@ -109,8 +111,8 @@ class Tree:
     def contract(self, call):
         """What a call's contract speaks of, and the types of its arguments and answer."""
         head = call.statement.partition("\n{")[0]
-        signature, *clauses = re.split(r"^\s+(?:requires|ensures) ", head, flags=re.M)
-        given = set(re.findall(r"(\w+):", signature))
+        signature, *clauses = re.split(r"^\s+(?:requires|ensures)\*?(?: \w+)? (?=\{)", head, flags=re.M)
+        given = set(re.findall(r"(\w+):", signature)) | {"result"}
         found = [self.resolve(call.home, t) for c in clauses for t in names("«" + c, set(), given)[0]]
         return [it for it in found if it] + self.types(call.home, signature)
 

@@ -2,7 +2,7 @@
 -- What the line does at one bit: the width on it is one that is asked for, nobody asks for less (where it is passive) or for
 -- more (where it is active), and the bit on it is a 0 if somebody sends a 0.
 use Rattle.std.specs.Prelude.{ℕ, ◌≤◌, ◌<◌, min, max, ◌≡◌, refl, ◌⊎◌, Bool, true, false, ◌&&◌, List, [], ◌∷◌}
-use Rattle.std.proofs.Common.{inl, inr, arith}
+use Rattle.std.proofs.Common.{inl, inr, subst, arith}
 use Rattle.laws.specs.Tests.{up_to}
 use Rattle.symbol.specs.ClassLaws.{class_only}
 use Rattle.symbol.specs.Sending.{SendingWindow, bit_symbol}
@@ -20,7 +20,7 @@ shortest_asked w (v ∷ ws) = go (up_to w (shortest (v ∷ ws))) (shortest_asked
   where
     go : (w ≤ shortest (v ∷ ws)) ⊎ (shortest (v ∷ ws) < w) → OneOf (shortest (v ∷ ws)) (v ∷ ws) → OneOf (min w (shortest (v ∷ ws))) (w ∷ v ∷ ws)
     go (inl h) r = inl (omega arith)
-    go (inr h) r = let e : min w (shortest (v ∷ ws)) ≡ shortest (v ∷ ws) = omega arith in inr (rw e r)
+    go (inr h) r = let e : shortest (v ∷ ws) ≡ min w (shortest (v ∷ ws)) = omega arith in inr (subst (λ (n : ℕ). OneOf n (v ∷ ws)) e r)
 
 -- Nobody asks for less than the shortest.
 pub shortest_least : (v : ℕ) (ws : List ℕ) → OneOf v ws → shortest ws ≤ v
@@ -39,7 +39,7 @@ longest_asked w (v ∷ ws) = go (up_to (longest (v ∷ ws)) w) (longest_asked v 
   where
     go : (longest (v ∷ ws) ≤ w) ⊎ (w < longest (v ∷ ws)) → OneOf (longest (v ∷ ws)) (v ∷ ws) → OneOf (max w (longest (v ∷ ws))) (w ∷ v ∷ ws)
     go (inl h) r = inl (omega arith)
-    go (inr h) r = let e : max w (longest (v ∷ ws)) ≡ longest (v ∷ ws) = omega arith in inr (rw e r)
+    go (inr h) r = let e : longest (v ∷ ws) ≡ max w (longest (v ∷ ws)) = omega arith in inr (subst (λ (n : ℕ). OneOf n (v ∷ ws)) e r)
 
 -- Nobody asks for more than the longest.
 pub longest_most : (v : ℕ) (ws : List ℕ) → OneOf v ws → v ≤ longest ws

@@ -1,5 +1,7 @@
 // The bench of arbitration: the types that callers see. What a round is, what each call answers and what it changes are
 // defined in specs/, in document 01's words; the code that works them out stands in the rooms above.
+#![tactic(auto)]
+
 use symbol::Clock;
 use units::Micros;
 

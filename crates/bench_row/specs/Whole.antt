@@ -1,8 +1,6 @@
 -- Laws.
 -- What the type says of a station that a function is given: its array is whole.
 use Rattle.std.specs.Prelude.{◌≡◌, [], ◌∷◌, length}
-use Rattle.std.proofs.Common.{sym, ◌∙◌}
-use Rattle.std.proofs.lemmas.List.{length-map}
 use denote.Laws.{Is}
 use denote.Struct.Declared.{row}
 use denote.Struct.Laws as laws
@@ -13,4 +11,4 @@ use Rattle.bench.proofs.Station.TheLaws as station-laws
 
 -- A station has its 11 bytes.
 pub whole : (s : Station) → Is (row station.the_type) s (laws.val station.the_type station-laws.the_laws s ∷ []) → length s.bytes ≡ most_stored
-whole s is = sym (length-map s.bytes (λ v. v)) ∙ (laws.owed station.the_type station-laws.the_laws s _ is).1.0.1.0.1
+whole s is = (laws.owed station.the_type station-laws.the_laws s _ is).1.0.1.0.1

@@ -1,4 +1,6 @@
 // A row by value, and what is asked of it as a whole.
+#![tactic(auto)]
+
 ghost use Rattle.std.specs.Prelude.{◌≡◌, min, get_or, replicate};
 ghost use Rattle.bench.specs.Stations.{most_stations, blank};
 ghost use Rattle.bench.specs.Round.{emptied};

@@ -1,6 +1,6 @@
 -- Laws.
 -- An EOD or an end, in each standing: the machine's tests are document 01's rows 16, 17, 18 and 19, in their order.
-use Rattle.std.specs.Prelude.{ℕ, ◌+◌, ◌-◌, ◌≡◌, refl, Bool, true, false, cond, not, ◌&&◌, List, ◌++◌, eqb, ltb, length}
+use Rattle.std.specs.Prelude.{ℕ, ◌+◌, ◌≡◌, refl, Bool, true, false, cond, not, ◌&&◌, List, ◌++◌, eqb, ltb, length}
 use Rattle.std.proofs.Common.{ap, ◌∙◌, append-nil, arith, length-append, lt-ltb, le-ltb, ltb-true, ltb-false}
 use Rattle.checkbyte.specs.Register.{register_of, register_from, residue}
 use Rattle.frame.specs.declared.Fault.TheVariants.{SplitByte, FewBytes, WrongCheck, EodAfterResponse}

@@ -1,7 +1,7 @@
 -- Laws.
 -- How the numbers that the machine holds hang together: it counts the bytes so far, which are those before the part and
 -- the part's own.
-use Rattle.std.specs.Prelude.{◌+◌, ◌≤◌, ◌≡◌, refl, ◌++◌, length}
+use Rattle.std.specs.Prelude.{◌≤◌, ◌≡◌, refl, ◌++◌, length}
 use Rattle.std.proofs.Common.{ap, ◌∙◌, append-nil, arith, length-append}
 use Rattle.frame.specs.Bits.{bytes}
 use Rattle.frame.specs.BitLaws.{bytes_none}
