@@ -8,7 +8,10 @@ put_line-end-requires c =
     let a = c.args in
     let h = c.requires in
     let q = c.read-reading.ensures in
-    record { holds = (read_prints a.customer.now a.vehicle.now a.widths.now a.from h.from_in_bounds refl q).holds; space = answer_space a.customer.now a.vehicle.now a.widths.now a.from h.from_in_bounds refl q h.space }
+    record {
+      holds = (read_prints a.customer.now a.vehicle.now a.widths.now a.from h.from_in_bounds refl q).holds;
+      space = answer_space a.customer.now a.vehicle.now a.widths.now a.from h.from_in_bounds refl q h.space;
+    }
 
 pub returns : goal.returns
 returns c =
