@@ -10,14 +10,14 @@ use Rattle.symbol.specs.declared.Symbol.TheVariants.{Sof}
 use Rattle.checkbyte.specs.Register.{check_of, with_check, Bytes}
 use Rattle.frame.specs.declared.Response.TheVariants.{Without}
 use Rattle.frame.specs.Bits.{bytes}
-use Rattle.frame.specs.ByteLaws.{bytes_back, with_bytes}
-use Rattle.frame.specs.WidthLaws.{with_check_length}
+use Rattle.frame.proofs.ByteLaws.{bytes_back, with_bytes}
+use Rattle.frame.proofs.WidthLaws.{with_check_length}
 use Rattle.frame.specs.Faults.{most_bytes}
 use Rattle.frame.specs.Reading.{good, reading}
 use Rattle.frame.specs.Waves.{Wave, still, pulse, bit_symbols, byte_symbols, FrameWave}
 use Rattle.frame.specs.Writing.{frame_sent, bad_message}
 use Rattle.frame.specs.Admitted.{admitted}
-use Rattle.frame.specs.ReadBack.{reads_wave}
+use Rattle.frame.proofs.ReadBack.{reads_wave}
 use Rattle.bench.specs.declared.Station.{Station}
 use Rattle.bench.specs.Stations.{most_stored, Bits, bits_sent}
 use Rattle.bench.specs.Round.{round_of}

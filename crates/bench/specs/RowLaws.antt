@@ -9,8 +9,8 @@ use Rattle.symbol.specs.Clocks.{good_of, Good}
 use Rattle.symbol.specs.Sending.{SendingWindow, bit_width, bit_symbol}
 use Rattle.symbol.specs.SendingLaws.{good}
 use Rattle.checkbyte.specs.Register.{check_of, with_check}
-use Rattle.frame.specs.ByteLaws.{bits_length, bits_cons}
-use Rattle.frame.specs.WidthLaws.{with_check_length}
+use Rattle.frame.proofs.ByteLaws.{bits_length, bits_cons}
+use Rattle.frame.proofs.WidthLaws.{with_check_length}
 use Rattle.bench.specs.declared.Station.{Station}
 use Rattle.bench.specs.declared.Fared.{Fared}
 use Rattle.bench.specs.declared.Fared.TheVariants.{Idle}

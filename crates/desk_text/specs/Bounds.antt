@@ -12,7 +12,8 @@ use Rattle.frame.specs.Faults.{most_bytes}
 use Rattle.frame.specs.Reading.{Outcome, good, quiet, unfinished, faulty, refused, reading}
 use Rattle.frame.specs.ReadPromise.{fault_number}
 use Rattle.frame.specs.ReadStated.{goes_on}
-use Rattle.frame.specs.ReadingOn.{next_of, ReadsOn, last, more, reads_on}
+use Rattle.frame.specs.ReadingOn.{next_of, last, more}
+use Rattle.frame.proofs.RecordingOn.{ReadsOn, reads_on}
 use Rattle.label.specs.Labels.{most_label}
 use Rattle.desk_text.specs.Input.{most_widths}
 use Rattle.desk_text.specs.Numerals.{decimal}

@@ -7,11 +7,11 @@ use Rattle.checkbyte.specs.Register.{all_ones, register_from}
 use Rattle.frame.specs.declared.Fault.TheVariants.{NoSof, ThirteenthByte}
 use Rattle.frame.specs.Signs.{bit}
 use Rattle.frame.specs.Bits.{value, bytes}
-use Rattle.frame.specs.BitLaws.{bytes_none, left_over_none, shifted_none, shifted_more, OneMore, is_left, is_whole, one_more, register_more}
+use Rattle.frame.proofs.BitLaws.{bytes_none, left_over_none, shifted_none, shifted_more, OneMore, is_left, is_whole, one_more, register_more}
 use Rattle.frame.specs.ReadStated.{left_over, shifted_in}
 use Rattle.frame.specs.Standing.{plain, checked, Standing, at_sof, in_main, at_normalization, in_response, moved}
 use Rattle.frame.specs.Faults.{fault}
-use Rattle.frame.specs.FaultLaws.{bit_fault}
+use Rattle.frame.proofs.FaultLaws.{bit_fault}
 use Rattle.frame_machine.specs.declared.Phase.{Phase}
 use Rattle.frame_machine.specs.declared.Phase.TheVariants.{Main, Plain, Checked}
 use Rattle.frame_machine.specs.declared.Machine.{Machine}

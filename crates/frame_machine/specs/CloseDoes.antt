@@ -6,11 +6,11 @@ use Rattle.checkbyte.specs.Register.{register_of, register_from, residue}
 use Rattle.frame.specs.declared.Fault.TheVariants.{SplitByte, FewBytes, WrongCheck, EodAfterResponse}
 use Rattle.frame.specs.Signs.{shut, shuts}
 use Rattle.frame.specs.Bits.{bytes}
-use Rattle.frame.specs.BitLaws.{bytes_none, left_over_none, left_none}
+use Rattle.frame.proofs.BitLaws.{bytes_none, left_over_none, left_none}
 use Rattle.frame.specs.Standing.{plain, checked, Standing, at_sof, in_main, at_normalization, in_response}
 use Rattle.frame.specs.Faults.{facts, part_bytes, checks_out, whole, fault}
-use Rattle.frame.specs.StandingLaws.{counted_shut}
-use Rattle.frame.specs.Parts.{shutting, shut_fault}
+use Rattle.frame.proofs.StandingLaws.{counted_shut}
+use Rattle.frame.proofs.Parts.{shutting, shut_fault}
 use Rattle.frame_machine.specs.declared.Stepped.{Stepped}
 use Rattle.frame_machine.specs.Steps.{faulty, closing, needed_of, eod_of, close_of}
 use Rattle.frame_machine.specs.Holding.{phase_of, earlier, so_far, holding}

@@ -7,11 +7,11 @@ use Rattle.frame.specs.declared.Fault.{Fault}
 use Rattle.frame.specs.declared.Sign.{Sign}
 use Rattle.frame.specs.Line.{Line, end_at}
 use Rattle.frame.specs.Standing.{counted, moved, stands}
-use Rattle.frame.specs.StandingLaws.{stands_sof, stands_next}
+use Rattle.frame.proofs.StandingLaws.{stands_sof, stands_next}
 use Rattle.frame.specs.Reading.{fault_at, decides}
 use Rattle.frame.specs.ReadPromise.{fault_number}
-use Rattle.frame.specs.BitLaws.{bytes_none}
-use Rattle.frame.specs.Decided.{fault_decides, end_decides}
+use Rattle.frame.proofs.BitLaws.{bytes_none}
+use Rattle.frame.proofs.Decided.{fault_decides, end_decides}
 use Rattle.frame_machine.specs.declared.Machine.{Machine}
 use Rattle.frame_machine.specs.declared.Event.{Event}
 use Rattle.frame_machine.specs.declared.Event.TheVariants.{Going, Byte, Closed, Faulty}

@@ -6,10 +6,10 @@ use Rattle.std.proofs.Common.{ap, ◌∙◌, arith, length-append, length-set, t
 use Rattle.frame.specs.declared.Sign.{Sign}
 use Rattle.frame.specs.Line.{Line}
 use Rattle.frame.specs.Standing.{Standing, counted, stands}
-use Rattle.frame.specs.StandingLaws.{stands_sof}
+use Rattle.frame.proofs.StandingLaws.{stands_sof}
 use Rattle.frame.specs.Reading.{fault_at, decides}
 use Rattle.frame.specs.ReadPromise.{fault_number}
-use Rattle.frame.specs.BitLaws.{bytes_none}
+use Rattle.frame.proofs.BitLaws.{bytes_none}
 use Rattle.frame_machine.specs.declared.Machine.{Machine}
 use Rattle.frame_machine.specs.declared.Event.{Event}
 use Rattle.frame_machine.specs.declared.Event.TheVariants.{Going, Byte, Closed, Faulty}

@@ -9,8 +9,8 @@ use Rattle.checkbyte.specs.Register.{register_of, check_of, residue, Bytes}
 use Rattle.checkbyte.specs.Residue.{residue_is}
 use Rattle.checkbyte.specs.Differ.{residue_only}
 use Rattle.frame.specs.Bits.{value, bytes}
-use Rattle.frame.specs.BitLaws.{checks_more}
-use Rattle.frame.specs.ByteLaws.{bytes_made}
+use Rattle.frame.proofs.BitLaws.{checks_more}
+use Rattle.frame.proofs.ByteLaws.{bytes_made}
 use Rattle.frame.specs.Faults.{checks_out}
 
 value_small : (b : Bool) → value b ≤ 1

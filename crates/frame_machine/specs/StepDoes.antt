@@ -10,8 +10,8 @@ use Rattle.frame.specs.declared.Sign.TheVariants.{Bit, Shut, Sof, Wrong}
 use Rattle.frame.specs.Signs.{wrong, sof}
 use Rattle.frame.specs.Standing.{plain, checked, Standing, at_sof, in_main, at_normalization, in_response}
 use Rattle.frame.specs.ReadPromise.{fault_number}
-use Rattle.frame.specs.BitLaws.{bytes_none, left_over_none}
-use Rattle.frame.specs.FaultLaws.{sof_fault, wrong_fault, named_range, other_number}
+use Rattle.frame.proofs.BitLaws.{bytes_none, left_over_none}
+use Rattle.frame.proofs.FaultLaws.{sof_fault, wrong_fault, named_range, other_number}
 use Rattle.frame_machine.specs.Steps.{faulty, sof_of, step_of, fresh}
 use Rattle.frame_machine.specs.Meaning.{meaning_of}
 use Rattle.frame_machine.specs.Holding.{so_far, holding}

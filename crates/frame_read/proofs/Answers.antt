@@ -16,8 +16,8 @@ use Rattle.frame.specs.Standing.{stands}
 use Rattle.frame.specs.Faults.{most_bytes}
 use Rattle.frame.specs.Reading.{Outcome, refused, fault_at, decides, decided, read_by, reading}
 use Rattle.frame.specs.ReadPromise.{fault_number, tells, lent_after, ReadPromise}
-use Rattle.frame.specs.ShownLaws.{shows_class}
-use Rattle.frame.specs.Outcomes.{reads_31, reads_32, reads_by}
+use Rattle.frame.proofs.ShownLaws.{shows_class}
+use Rattle.frame.proofs.Outcomes.{reads_31, reads_32, reads_by}
 use Rattle.frame_machine.specs.declared.Machine.{Machine}
 use Rattle.frame_machine.specs.declared.Event.{Event}
 use Rattle.frame_machine.specs.declared.Stepped.{Stepped}

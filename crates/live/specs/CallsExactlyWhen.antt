@@ -12,10 +12,11 @@ use Rattle.frame.specs.Faults.{most_bytes}
 use Rattle.frame.specs.Reading.{Outcome, read_on, reading}
 use Rattle.frame.specs.ReadPromise.{fault_number, Told, tells}
 use Rattle.frame.specs.ReadStated.{Answers, is_closed, is_silent, is_unclosed, is_at_fault}
-use Rattle.frame.specs.Outcomes.{reading_fault}
-use Rattle.frame.specs.FaultLaws.{wrong_named, other_number, named_range}
-use Rattle.frame.specs.ReadExactlyWhen.{row_exactly}
-use Rattle.frame.specs.ReadingOn.{ReadsOn, last, more, reads_on, reads_once, reads_through, stops}
+use Rattle.frame.proofs.Outcomes.{reading_fault}
+use Rattle.frame.proofs.FaultLaws.{wrong_named, other_number, named_range}
+use Rattle.frame.proofs.ReadExactlyWhen.{row_exactly}
+use Rattle.frame.specs.ReadingOn.{last, more, reads_once, reads_through}
+use Rattle.frame.proofs.RecordingOn.{ReadsOn, reads_on, stops}
 use Rattle.live_held.specs.declared.Live.{Live}
 use Rattle.live_answer.specs.declared.Heard.{Heard}
 use Rattle.live_answer.specs.declared.Heard.TheVariants.{Nothing, Frame, Faulty, PastPlaces, FewLentBytes}

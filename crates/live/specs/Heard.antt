@@ -9,10 +9,10 @@ use Rattle.symbol.specs.Classes.{class_of, end_of}
 use Rattle.frame.specs.Line.{active_at, sign_of, single, end_at, nowhere, opening}
 use Rattle.frame.specs.Faults.{most_bytes}
 use Rattle.frame.specs.Reading.{Outcome}
-use Rattle.frame.specs.ShownLaws.{end_width_law, shows_class}
+use Rattle.frame.proofs.ShownLaws.{end_width_law, shows_class}
 use Rattle.frame.specs.FirstLaws.{first_empty, opening_is}
 use Rattle.frame.specs.ReadingOn.{none_yet}
-use Rattle.frame.specs.Longer.{shows_same}
+use Rattle.frame.proofs.Longer.{shows_same}
 use Rattle.frame_machine.specs.declared.Phase.{Phase}
 use Rattle.frame_machine.specs.declared.Phase.TheVariants.{Sof, Main, Normalization, Plain, Checked}
 use Rattle.frame_machine.specs.declared.Machine.{Machine}

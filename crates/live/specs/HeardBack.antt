@@ -12,12 +12,13 @@ use Rattle.checkbyte.specs.Register.{Bytes}
 use Rattle.frame.specs.Line.{single, at, opening}
 use Rattle.frame.specs.Faults.{most_bytes}
 use Rattle.frame.specs.Reading.{Outcome, good, quiet, reading}
-use Rattle.frame.specs.Outcomes.{reads_by}
+use Rattle.frame.proofs.Outcomes.{reads_by}
 use Rattle.frame.specs.Writing.{frame_sent, bad_message, frame_words}
 use Rattle.frame.specs.Waves.{FrameWave}
-use Rattle.frame.specs.ReadBack.{wave_few, reads_wave}
-use Rattle.frame.specs.WrittenBack.{written_wave}
-use Rattle.frame.specs.ReadingOn.{next_of, progress, ReadsOn, last, more, closing_opens}
+use Rattle.frame.proofs.ReadBack.{wave_few, reads_wave}
+use Rattle.frame.proofs.WrittenBack.{written_wave}
+use Rattle.frame.specs.ReadingOn.{next_of, last, more}
+use Rattle.frame.proofs.RecordingOn.{progress, ReadsOn, closing_opens}
 use Rattle.live.specs.Feeding.{started}
 use Rattle.live.specs.Shown.{Delivered, recording, Enough, after_all, shows_all, reads, shows_asked}
 use Rattle.live.specs.Whole.{live_whole}

@@ -8,7 +8,7 @@ use Rattle.laws.specs.RuleLaws.{none_is}
 use Rattle.frame.specs.Line.{single}
 use Rattle.frame.specs.Faults.{most_bytes}
 use Rattle.frame.specs.Reading.{Outcome}
-use Rattle.frame.specs.ReadingOn.{ReadsOn}
+use Rattle.frame.proofs.RecordingOn.{ReadsOn}
 use Rattle.live_held.specs.declared.Live.{Live}
 use Rattle.live.specs.Feeding.{started, fed_of}
 use Rattle.live_held.specs.Held.{last_place}

@@ -12,9 +12,10 @@ use Rattle.frame.specs.Reading.{Outcome, good, closed, faulty, decides, decided_
 use Rattle.frame.specs.ReadPromise.{fault_number}
 use Rattle.frame.specs.FirstLaws.{or_at, first_next, first_empty, opening_is}
 use Rattle.frame.specs.ReadStated.{Opens, goes_on}
-use Rattle.frame.specs.Outcomes.{opening_opens, opened_reading}
-use Rattle.frame.specs.ReadingOn.{next_of, progress, none_yet, one_more}
-use Rattle.frame.specs.Longer.{first_same, end_same, stands_same, decides_same, reading_stays}
+use Rattle.frame.proofs.Outcomes.{opening_opens, opened_reading}
+use Rattle.frame.specs.ReadingOn.{next_of, none_yet, one_more}
+use Rattle.frame.proofs.RecordingOn.{progress}
+use Rattle.frame.proofs.Longer.{first_same, end_same, stands_same, decides_same, reading_stays}
 use Rattle.frame_machine.specs.declared.Machine.{Machine}
 use Rattle.frame_machine.specs.declared.Event.{Event}
 use Rattle.frame_machine.specs.declared.Event.TheVariants.{Going, Byte, Closed, Faulty}

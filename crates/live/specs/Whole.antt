@@ -11,7 +11,8 @@ use Rattle.frame.specs.Faults.{most_bytes}
 use Rattle.frame.specs.Reading.{Outcome, good, quiet, unfinished, faulty, refused, reading}
 use Rattle.frame.specs.ReadPromise.{Told, tells, lent_after}
 use Rattle.frame.specs.ReadStated.{goes_on}
-use Rattle.frame.specs.ReadingOn.{ReadsOn, last, reads_once, reads_through}
+use Rattle.frame.specs.ReadingOn.{last, reads_once, reads_through}
+use Rattle.frame.proofs.RecordingOn.{ReadsOn}
 use Rattle.live_held.specs.declared.Live.{Live}
 use Rattle.live.specs.Feeding.{started, fed_of, lent_of, asked_of}
 use Rattle.live_held.specs.Held.{last_place}

@@ -9,7 +9,7 @@ use lib.ListN.{length, get_or, take}
 use lib.Seq.{sets, length-sets}
 use Rattle.frame.specs.Bits.{bits_of_byte}
 use Rattle.frame.specs.Writing.{bit_widths, byte_widths}
-use Rattle.frame.specs.WidthLaws.{byte_widths_none}
+use Rattle.frame.proofs.WidthLaws.{byte_widths_none}
 use Rattle.frame_write.proofs.Words.{byte_more, byte_all}
 use borrow.Author.Rules.{rules}
 use Rattle.frame_write.proofs.put_bytes.Goals as goal

@@ -7,7 +7,7 @@ use lib.ListN.{length}
 use Rattle.symbol.specs.Sending.{bit_width}
 use Rattle.checkbyte.specs.Register.{with_check}
 use Rattle.frame.specs.Writing.{byte_widths}
-use Rattle.frame.specs.WidthLaws.{byte_widths_length, with_check_length}
+use Rattle.frame.proofs.WidthLaws.{byte_widths_length, with_check_length}
 use Rattle.frame_write.proofs.Words.{plain_room, plain_after, checked_room, checked_after, response_laid, afresh}
 use Rattle.frame_write.proofs.put_response.Goals as goal
 

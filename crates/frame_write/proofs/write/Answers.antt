@@ -5,7 +5,7 @@ use lib.ListN.{length}
 use borrow.Author.Tests.{ltb-false}
 use Rattle.laws.specs.Lent.{sets_first}
 use Rattle.frame.specs.Writing.{frame_words, most_words}
-use Rattle.frame.specs.WidthLaws.{admitted_words}
+use Rattle.frame.proofs.WidthLaws.{admitted_words}
 use Rattle.frame_write.proofs.Writes.{refuses_36, refuses_37, refuses_32, writes}
 use Rattle.frame_write.proofs.write.Goals as goal
 

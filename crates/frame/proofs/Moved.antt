@@ -9,7 +9,7 @@ use Rattle.std.proofs.Math.Dec.{leb}
 use borrow.Author.Tests.{le-ltb, lt-leb, le-leb, leb-true, leb-false}
 use Rattle.frame.specs.Line.{active_at, symbol_at, Line, single, end_at, Found, nowhere, at, first, first_in, opening}
 use Rattle.frame.specs.Standing.{counted, stands}
-use Rattle.frame.specs.StandingLaws.{stands_sof, stands_next}
+use Rattle.frame.proofs.StandingLaws.{stands_sof, stands_next}
 use Rattle.frame.specs.Faults.{most_bytes}
 use Rattle.frame.specs.Reading.{Outcome, good, quiet, unfinished, faulty, closed, fault_at, decides, decided_by, decided, outcome_by, read_on, reading}
 use Rattle.frame.specs.FirstLaws.{first_at_law}

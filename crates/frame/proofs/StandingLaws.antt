@@ -8,7 +8,7 @@ use Rattle.frame.specs.Line.{Line, Found, nowhere, at, first_in, bits_in}
 use Rattle.frame.specs.Standing.{Standing, at_sof, in_main, at_normalization, in_response, response_by, with_bits, counted, moved, stands_by, stands}
 use Rattle.frame.specs.FirstLaws.{first_at_law, or_at, first_next, first_empty}
 use Rattle.frame.specs.ReadStated.{IsFirst}
-use Rattle.frame.specs.BitLaws.{bits_next, bits_empty}
+use Rattle.frame.proofs.BitLaws.{bits_next, bits_empty}
 
 -- No bits more change nothing.
 pub with_none : (st : Standing) → with_bits st [] ≡ st

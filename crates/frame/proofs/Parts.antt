@@ -9,10 +9,10 @@ use Rattle.frame.specs.Signs.{Sign, wrong, sof, bit, shut, is_eod, shuts}
 use Rattle.frame.specs.Bits.{bytes, bits_of}
 use Rattle.frame.specs.Standing.{plain, checked, Standing, at_sof, in_main, at_normalization, in_response, with_bits, counted, moved}
 use Rattle.frame.specs.Faults.{facts, part_bytes, checks_out, whole, fault}
-use Rattle.frame.specs.WidthLaws.{with_check_length}
-use Rattle.frame.specs.FaultLaws.{no_fault_is}
-use Rattle.frame.specs.ByteLaws.{bytes_few_law, bytes_back, bits_length, with_checks, with_bytes}
-use Rattle.frame.specs.Passing.{Passes, stay, pass, Closes, close, on}
+use Rattle.frame.proofs.WidthLaws.{with_check_length}
+use Rattle.frame.proofs.FaultLaws.{no_fault_is}
+use Rattle.frame.proofs.ByteLaws.{bytes_few_law, bytes_back, bits_length, with_checks, with_bytes}
+use Rattle.frame.proofs.Passing.{Passes, stay, pass, Closes, close, on}
 use Rattle.frame.specs.ReadStated.{Complete, ChecksRight}
 
 -- ## What closes a part

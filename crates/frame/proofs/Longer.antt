@@ -5,11 +5,11 @@ use Rattle.std.proofs.Common.{sym, ap, subst, ◌∙◌, arith}
 use Rattle.laws.specs.Tests.{never}
 use Rattle.frame.specs.Line.{symbol_at, Line, single, end_at, Found, nowhere, at, first, first_in}
 use Rattle.frame.specs.Standing.{stands}
-use Rattle.frame.specs.StandingLaws.{stands_sof, stands_next}
+use Rattle.frame.proofs.StandingLaws.{stands_sof, stands_next}
 use Rattle.frame.specs.Reading.{fault_at, decides, decided_by, decided, read_on}
 use Rattle.frame.specs.FirstLaws.{first_at_law, at_first}
 use Rattle.frame.specs.ReadStated.{IsFirst, Opens, goes_on}
-use Rattle.frame.specs.Outcomes.{opened_reading, OpenedBy, opened_by}
+use Rattle.frame.proofs.Outcomes.{opened_reading, OpenedBy, opened_by}
 
 -- Where two tests agree, the first place is the same.
 pub first_same : (t u : ℕ → Bool) (i n : ℕ) → ((j : ℕ) → i ≤ j → j < i + n → t j ≡ u j) → first t i n ≡ first u i n

@@ -7,8 +7,8 @@ use Rattle.symbol.specs.SendingLaws.{nominal_good}
 use Rattle.frame.specs.Faults.{most_bytes}
 use Rattle.frame.specs.Reading.{Good, good, reading}
 use Rattle.frame.specs.Nominal.{without_check, nominal_intervals, response_bare}
-use Rattle.frame.specs.WrittenBack.{reads_written}
-use Rattle.frame.specs.Again.{written_again}
+use Rattle.frame.proofs.WrittenBack.{reads_written}
+use Rattle.frame.proofs.Again.{written_again}
 use Rattle.frame.specs.WriteStated.{WrittenAgain}
 use Rattle.frame.specs.ReadStated.{put_at}
 

@@ -20,19 +20,19 @@ use Rattle.frame.specs.Standing.{plain, checked, Standing, at_sof, in_main, at_n
 use Rattle.frame.specs.Faults.{facts, main_bytes, response_bytes, most_bytes, checks_out}
 use Rattle.frame.specs.Reading.{Good, good, closed, fault_at, frame_at, reading}
 use Rattle.frame.specs.Writing.{most_words, response_sent, frame_words, words, writing}
-use Rattle.frame.specs.Decided.{good_at}
+use Rattle.frame.proofs.Decided.{good_at}
 use Rattle.frame.specs.ReadStated.{Earliest, GoodAt, Complete, ChecksRight}
-use Rattle.frame.specs.Outcomes.{OpenedBy, opened_by}
-use Rattle.frame.specs.ByteLaws.{bits_back, check_back, bytes_made}
+use Rattle.frame.proofs.Outcomes.{OpenedBy, opened_by}
+use Rattle.frame.proofs.ByteLaws.{bits_back, check_back, bytes_made}
 use Rattle.frame.specs.Nominal.{without_check, width_of, nominal_at, nominal_from, nominal_intervals, response_bare}
 use Rattle.frame.specs.Waves.{bit_symbols, frame_symbols}
 use Rattle.frame.specs.WaveLaws.{level_turns}
 use Rattle.frame.specs.WriteStated.{Carry, Admitted, spelled, Sound, Reached, WrittenAgain}
-use Rattle.frame.specs.ShownLaws.{end_passive, end_shuts, counted_end}
-use Rattle.frame.specs.WordLaws.{sent_widths, frame_sent_law}
-use Rattle.frame.specs.Parts.{shut_complete}
+use Rattle.frame.proofs.ShownLaws.{end_passive, end_shuts, counted_end}
+use Rattle.frame.proofs.WordLaws.{sent_widths, frame_sent_law}
+use Rattle.frame.proofs.Parts.{shut_complete}
 use Rattle.frame.specs.Admitted.{admitted}
-use Rattle.frame.specs.Spelled.{reached}
+use Rattle.frame.proofs.Spelled.{reached}
 
 -- ## The parts that were read
 

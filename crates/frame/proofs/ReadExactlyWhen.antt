@@ -12,9 +12,9 @@ use Rattle.frame.specs.Standing.{stands}
 use Rattle.frame.specs.Faults.{most_bytes}
 use Rattle.frame.specs.Reading.{Outcome, good, quiet, unfinished, faulty, refused, fault_at, decided, read_by, read_rules, outcome_by, read_on, reading}
 use Rattle.frame.specs.ReadPromise.{Told, told, tells, written, ReadPromise}
-use Rattle.frame.specs.FaultLaws.{Named, named_range, wrong_named, fault_named}
-use Rattle.frame.specs.Outcomes.{comes, opened_reading, quiet_exactly, unfinished_exactly, fault_exactly, reading_fault}
-use Rattle.frame.specs.Decided.{Decision, is_unfinished, is_good, is_faulty, decision, decides_good}
+use Rattle.frame.proofs.FaultLaws.{Named, named_range, wrong_named, fault_named}
+use Rattle.frame.proofs.Outcomes.{comes, opened_reading, quiet_exactly, unfinished_exactly, fault_exactly, reading_fault}
+use Rattle.frame.proofs.Decided.{Decision, is_unfinished, is_good, is_faulty, decision, decides_good}
 use Rattle.frame.specs.ReadStated.{Opens, Silent, Unclosed, ReadCase, is_past, is_short, is_quiet, is_opened, Answers, is_closed, is_silent, is_unclosed, is_at_fault}
 
 -- ## The rows

@@ -12,7 +12,7 @@ use Rattle.frame.specs.Bits.{bits_of}
 use Rattle.frame.specs.Writing.{bit_widths, byte_widths, response_widths, frame_words}
 use Rattle.frame.specs.Waves.{bit_symbols, byte_symbols, response_symbols, frame_symbols}
 use Rattle.frame.specs.WaveLaws.{turned}
-use Rattle.frame.specs.ByteLaws.{bits_length}
+use Rattle.frame.proofs.ByteLaws.{bits_length}
 use Rattle.frame.specs.Nominal.{width_of}
 use Rattle.frame.specs.WriteStated.{inner_words}
 

@@ -12,8 +12,8 @@ use Rattle.frame.specs.Line.{Line, end_at, Found, nowhere, at, opening}
 use Rattle.frame.specs.Standing.{stands}
 use Rattle.frame.specs.Reading.{Outcome, good, quiet, unfinished, faulty, refused, decided, read_by, outcome_by, read_on}
 use Rattle.frame.specs.FirstLaws.{first_at_law, at_first}
-use Rattle.frame.specs.FaultLaws.{fault_is}
-use Rattle.frame.specs.Decided.{Decision, is_unfinished, is_good, is_faulty, decision, faulty_exactly}
+use Rattle.frame.proofs.FaultLaws.{fault_is}
+use Rattle.frame.proofs.Decided.{Decision, is_unfinished, is_good, is_faulty, decision, faulty_exactly}
 use Rattle.frame.specs.ReadStated.{IsFirst, Undecided, Opens, ReadCase, is_past, is_short, is_quiet, is_opened, goes_on, Silent, Unclosed, AtFault, ReadsFault}
 
 module _ (limit : ℕ) (l : Line) (p lent : ℕ) where

@@ -21,18 +21,18 @@ use Rattle.frame.specs.Standing.{plain, checked, Standing, at_sof, in_main, in_r
 use Rattle.frame.specs.Faults.{most_bytes, fault}
 use Rattle.frame.specs.Reading.{good, closed, read_on, reading}
 use Rattle.frame.specs.Writing.{most_words, frame_sent, bad_message}
-use Rattle.frame.specs.WidthLaws.{admitted_words}
-use Rattle.frame.specs.Outcomes.{opened_reading}
+use Rattle.frame.proofs.WidthLaws.{admitted_words}
+use Rattle.frame.proofs.Outcomes.{opened_reading}
 use Rattle.frame.specs.ReadStated.{Opens, Complete, ChecksRight}
-use Rattle.frame.specs.ByteLaws.{bytes_back, bits_length, with_bytes}
+use Rattle.frame.proofs.ByteLaws.{bytes_back, bits_length, with_bytes}
 use Rattle.frame.specs.Waves.{bit_symbols, byte_symbols, response_symbols, frame_symbols, FrameWave}
 use Rattle.frame.specs.WaveLaws.{Stand, Shows, stands_after, stand_append, wave_carries, wave_length, bit_shown, carry_shows, shows_append}
 use Rattle.frame.specs.WriteStated.{Carry, Admitted}
-use Rattle.frame.specs.ShownLaws.{end_width_law, end_shuts}
-use Rattle.frame.specs.Passing.{Closes, on, passes_closes, decides_it}
-use Rattle.frame.specs.Parts.{sealed_complete, sealed_right, plain_complete, spells, part_closes, part_passes}
+use Rattle.frame.proofs.ShownLaws.{end_width_law, end_shuts}
+use Rattle.frame.proofs.Passing.{Closes, on, passes_closes, decides_it}
+use Rattle.frame.proofs.Parts.{sealed_complete, sealed_right, plain_complete, spells, part_closes, part_passes}
 use Rattle.frame.specs.Admitted.{admitted}
-use Rattle.frame.specs.WordLaws.{bytes_length, words_count}
+use Rattle.frame.proofs.WordLaws.{bytes_length, words_count}
 
 -- ## A message's symbols
 

@@ -8,7 +8,7 @@ use Rattle.checkbyte.specs.Register.{check_of, with_check, Bytes}
 use Rattle.checkbyte.specs.Residue.{check_lt}
 use Rattle.frame.specs.Bits.{value, byte, bytes, odd, bits_of_byte, bits_of}
 use Rattle.frame.specs.Faults.{checks_out}
-use Rattle.frame.specs.BitLaws.{value_small, checks_more}
+use Rattle.frame.proofs.BitLaws.{value_small, checks_more}
 use Rattle.frame.specs.Nominal.{without_check}
 
 -- ## Bytes to bits to bytes

@@ -21,9 +21,9 @@ use Rattle.frame.specs.Reading.{good, reading}
 use Rattle.frame.specs.Writing.{frame_sent, bit_widths, response_widths, frame_words, bad_message}
 use Rattle.frame.specs.Waves.{Wave, still, pulse, bit_symbols, byte_symbols, response_symbols, FrameWave}
 use Rattle.frame.specs.WaveLaws.{turned, wave_append}
-use Rattle.frame.specs.WordLaws.{level_back, frame_inner}
+use Rattle.frame.proofs.WordLaws.{level_back, frame_inner}
 use Rattle.frame.specs.WriteStated.{inner_words}
-use Rattle.frame.specs.ReadBack.{reads_wave}
+use Rattle.frame.proofs.ReadBack.{reads_wave}
 
 module _ (c : Clock) (g : Good c) where
   -- what a good clock sends for a symbol lies in the symbol's receiving window

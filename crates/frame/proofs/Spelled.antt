@@ -16,13 +16,13 @@ use Rattle.frame.specs.Line.{active_at, symbol_at, sign_of, single, end_at}
 use Rattle.frame.specs.Standing.{Kind, plain, checked, Standing, at_sof, in_main, at_normalization, in_response, moved, stands}
 use Rattle.frame.specs.Faults.{facts, main_bytes, response_bytes, fault}
 use Rattle.frame.specs.Reading.{fault_at}
-use Rattle.frame.specs.BitLaws.{OneMore, is_left, is_whole, one_more}
-use Rattle.frame.specs.StandingLaws.{stands_sof, stands_next}
+use Rattle.frame.proofs.BitLaws.{OneMore, is_left, is_whole, one_more}
+use Rattle.frame.proofs.StandingLaws.{stands_sof, stands_next}
 use Rattle.frame.specs.ReadStated.{Undecided}
 use Rattle.frame.specs.Waves.{bit_symbols}
 use Rattle.frame.specs.WaveLaws.{carry_append, level_turns, bit_shown}
-use Rattle.frame.specs.Parts.{shut_complete}
-use Rattle.frame.specs.FaultLaws.{no_fault_is}
+use Rattle.frame.proofs.Parts.{shut_complete}
+use Rattle.frame.proofs.FaultLaws.{no_fault_is}
 use Rattle.frame.specs.WriteStated.{normalization, spelled, Sound, Reached}
 
 -- ## One symbol further

@@ -8,7 +8,7 @@ use Rattle.frame.specs.declared.Fault.TheVariants.{Noise, NoSof, Break, Stuck, L
 use Rattle.frame.specs.declared.Reading.{Reading}
 use Rattle.frame.specs.declared.Reading.TheVariants.{Frame, Quiet, Unfinished, Faulty, PastRecording, FewLentBytes}
 use Rattle.frame.specs.ReadPromise.{fault_number, Told, told, ReadPromise}
-use Rattle.frame.specs.FaultLaws.{other_number}
+use Rattle.frame.proofs.FaultLaws.{other_number}
 
 -- the fault of a number; of a number that no fault has, any will do
 abbrev pub fault_of : ℕ → Fault

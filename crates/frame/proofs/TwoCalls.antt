@@ -23,13 +23,13 @@ use Rattle.frame.specs.ReadPromise.{told, tells, lent_after, ReadPromise}
 use Rattle.frame.specs.Writing.{Sheet, words, writing, most_words, response_sent, frame_sent, frame_words, bad_message}
 use Rattle.frame.specs.WritePromise.{counted, counts, words_after, WritePromise}
 use Rattle.frame.specs.Nominal.{without_check, nominal_intervals, response_bare}
-use Rattle.frame.specs.Decided.{Decision, is_unfinished, is_good, is_faulty, decision}
-use Rattle.frame.specs.Outcomes.{comes}
+use Rattle.frame.proofs.Decided.{Decision, is_unfinished, is_good, is_faulty, decision}
+use Rattle.frame.proofs.Outcomes.{comes}
 use Rattle.frame.specs.ReadStated.{ReadCase, is_past, is_short, is_quiet, is_opened}
 use Rattle.frame.specs.WriteSettled.{counted_once}
-use Rattle.frame.specs.WriteExactlyWhen.{writes_words}
-use Rattle.frame.specs.WrittenBack.{reads_written}
-use Rattle.frame.specs.Again.{written_again, writes_again}
+use Rattle.frame.proofs.WriteExactlyWhen.{writes_words}
+use Rattle.frame.proofs.WrittenBack.{reads_written}
+use Rattle.frame.proofs.Again.{written_again, writes_again}
 use Rattle.frame.specs.WriteStated.{WrittenAgain, main_taken, response_taken}
 
 -- ## What is written is read back

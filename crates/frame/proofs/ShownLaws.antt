@@ -11,7 +11,7 @@ use Rattle.symbol.specs.ClassLaws.{class_only, class_in, end_is}
 use Rattle.frame.specs.Signs.{shut, wrong_of, is_end}
 use Rattle.frame.specs.Line.{active_at, symbol_at, sign_of, single, end_at}
 use Rattle.frame.specs.Standing.{Standing, counted}
-use Rattle.frame.specs.StandingLaws.{counted_shut}
+use Rattle.frame.proofs.StandingLaws.{counted_shut}
 use Rattle.frame.specs.ReadStated.{WrongWidth, is_noise, is_break, is_stuck}
 
 -- ## Ends

@@ -9,7 +9,7 @@ use Rattle.frame.specs.Standing.{Standing, at_sof, counted, moved, stands}
 use Rattle.frame.specs.Faults.{fault}
 use Rattle.frame.specs.Reading.{good, closed, fault_at, decides, decided}
 use Rattle.frame.specs.FirstLaws.{at_first}
-use Rattle.frame.specs.StandingLaws.{stands_sof, stands_next}
+use Rattle.frame.proofs.StandingLaws.{stands_sof, stands_next}
 use Rattle.frame.specs.WaveLaws.{Shows}
 
 -- From the standing st the signs lead to the standing st', and none of them is at fault or an end.
