@@ -12,6 +12,7 @@ use Rattle.frame.specs.declared.Writing.{Writing}
 use Rattle.frame.specs.Writing.{turned_away, writing}
 use Rattle.frame.specs.WritePromise.{counted, counts, words_after, WritePromise}
 use Rattle.frame_numbers.specs.Numbers.{kind_of}
+use Rattle.c_frame_answers.specs.declared.Counted.{Counted}
 use Rattle.c_frame_answers.specs.Answers.{no_such_kind, sheet_of, counted_as}
 
 module _ (c : Clock) (main : List ℕ) (kind : ℕ) (rs : List ℕ) (lent : ℕ) where
@@ -38,3 +39,11 @@ kept false lent = refl
 
 pub no_kind_kept : (c : Clock) (lent : List ℕ) → lent ≡ words_after (no_such_kind c) lent
 no_kind_kept c lent = kept (not (good_of c)) lent
+
+-- What is said of a kind that is none: the numbers, and the lent words as they were.
+pub no_kind_told : (c : Clock) (main : List ℕ) (kind : ℕ) (rs : List ℕ) (lent : ℕ) (r : Counted)
+    → 2 < kind → r ≡ counted_as (counts (no_such_kind c)) → r ≡ counted_as (counts (sheet_of c main kind rs lent))
+no_kind_told c main kind rs lent r h e = rw (no_kind c main kind rs lent h) e
+
+pub no_kind_words : (c : Clock) (main : List ℕ) (kind : ℕ) (rs lent : List ℕ) → 2 < kind → lent ≡ words_after (sheet_of c main kind rs (length lent)) lent
+no_kind_words c main kind rs lent h = rw (no_kind c main kind rs (length lent) h) (no_kind_kept c lent)

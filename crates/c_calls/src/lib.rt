@@ -67,6 +67,7 @@ pub extern "C" fn j1850_intervals(gate: Gate, samples: &[f32], words: &mut [u32]
 
 // Writes the frame of a message, at a clock, into lent words. A kind that is none of the three is turned away as a bad
 // message is, after a bad clock.
+#[tactic(auto, using(crate::proofs::ByKind::no_kind_told, crate::proofs::ByKind::no_kind_words))]
 #[unsafe(no_mangle)]
 pub extern "C" fn j1850_write(
     clock: Clock,
