@@ -1,5 +1,7 @@
 // A round on a row by value: whether it is played, its words and its line time, and the stations afterwards. Its bits, and
 // how the stations fare, are the room below's.
+#![tactic(auto)]
+
 ghost use Rattle.std.specs.Prelude.{◌≤◌, ◌≡◌, true, map, eqb, length, take};
 ghost use Rattle.frame.specs.Writing.{most_words};
 ghost use Rattle.bench.specs.Course.{longest};

@@ -1,4 +1,6 @@
 // What the calls on a row of stations answer to other languages: the answers of the held row as structs of plain numbers.
+#![tactic(auto)]
+
 ghost use Rattle.std.specs.Prelude.{◌≡◌, map};
 ghost use Rattle.bench.specs.Promise.{called_number, told_number, said};
 ghost use Rattle.c_bench_answers.specs.Answers.{called_as, verdict_as, round_as};

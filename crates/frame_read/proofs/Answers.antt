@@ -29,8 +29,8 @@ use Rattle.frame_machine.specs.HoldingLaws.{count_of}
 use Rattle.frame_parts.specs.Laying.{laid_of, laid_enough}
 use Rattle.frame_parts.specs.Parts.{parts_of}
 use Rattle.frame_parts.specs.PartLaws.{parts_held}
-use Rattle.frame_machine.specs.StepDoes.{some_fault}
-use Rattle.frame_machine.specs.Keeping.{Closing, SaysKept, kept_by}
+use Rattle.frame_machine.proofs.StepDoes.{some_fault}
+use Rattle.frame_machine.proofs.Keeping.{Closing, SaysKept, kept_by}
 use Rattle.frame_machine.specs.Stated.{Keeping}
 use Rattle.frame_read.specs.Answering.{placed, frame_of, Meets}
 

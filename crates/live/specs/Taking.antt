@@ -24,9 +24,9 @@ use Rattle.frame_machine.specs.Holding.{so_far, holding}
 use Rattle.frame_machine.specs.HoldingLaws.{count_of}
 use Rattle.frame_parts.specs.PartLaws.{parts_held}
 use Rattle.frame_machine.specs.Meaning.{meaning_of}
-use Rattle.frame_machine.specs.StepDoes.{some_fault}
-use Rattle.frame_machine.specs.Following.{held_few, held_began}
-use Rattle.frame_machine.specs.Keeping.{SaysKept, kept_by}
+use Rattle.frame_machine.proofs.StepDoes.{some_fault}
+use Rattle.frame_machine.proofs.Following.{held_few, held_began}
+use Rattle.frame_machine.proofs.Keeping.{SaysKept, kept_by}
 use Rattle.frame_machine.specs.Stated.{Kept, Keeping}
 use Rattle.live_held.specs.declared.Live.{Live}
 use Rattle.live_held.specs.Reader.{held_by, begins_anew, goes_on as goes_on_with}

@@ -1,7 +1,7 @@
 -- `frame_machine::push` meets its contract, test by test.
 use mathlib.Core.Path.{sym, ◌∙◌}
 use Rattle.frame_machine.proofs.Exits.{push_open, push_whole}
-use Rattle.frame_machine.specs.BitDoes.{push_full}
+use Rattle.frame_machine.proofs.BitDoes.{push_full}
 use Rattle.frame_machine.proofs.push.Goals as goal
 
 pub returns-then-limit-count : goal.returns-then-limit-count

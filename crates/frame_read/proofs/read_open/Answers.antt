@@ -4,7 +4,7 @@ use mathlib.Core.Path.{refl, ap, ◌∙◌}
 use native.Mathlib.Omega.{arith}
 use lib.ListN.{length}
 use Rattle.frame.specs.Line.{single}
-use Rattle.frame_machine.specs.Keeping.{keeping_first}
+use Rattle.frame_machine.proofs.Keeping.{keeping_first}
 use Rattle.frame_read.proofs.Searching.{decides_here, decides_none}
 use Rattle.frame_read.proofs.Answers.{told_by_law, unfinished_meets, faulty_meets, closed_meets}
 use borrow.Author.Rules.{rules}

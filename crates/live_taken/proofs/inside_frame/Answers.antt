@@ -1,7 +1,7 @@
 -- `live_taken::inside_frame` meets its contract: each arm is the line of the definition for its event.
 use mathlib.Core.Path.{◌∙◌}
 use Rattle.live_taken.proofs.Events.{steps_by, fed_by_law, laid_by_law}
-use Rattle.frame_machine.specs.Space.{has_space}
+use Rattle.frame_machine.proofs.Space.{has_space}
 use Rattle.live_taken.proofs.inside_frame.Goals as goal
 
 pub bounds-kept-count : goal.bounds-kept-count

@@ -1,5 +1,5 @@
 -- `bench_lent::gathered` meets its contract: a place more for each turn.
-use Rattle.std.proofs.Common.{◌≡◌, ◌<◌, ◌∙◌, ap, arith, length, get_or, set, List, []}
+use Rattle.std.proofs.Common.{◌<◌, ◌∙◌, ap, arith, length, get_or, set, List, []}
 use Rattle.bench.specs.declared.Station.{Station}
 use Rattle.bench_row.specs.declared.HeldRow.{HeldRow}
 use Rattle.bench_lent.specs.Restoring.{gather_start, gather_more, gather_all}

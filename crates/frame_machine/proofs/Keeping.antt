@@ -18,7 +18,7 @@ use Rattle.frame_machine.specs.Steps.{fresh, step_of}
 use Rattle.frame_machine.specs.Meaning.{meaning_of}
 use Rattle.frame_machine.specs.Holding.{so_far, holding}
 use Rattle.frame_machine.specs.HoldingLaws.{count_of}
-use Rattle.frame_machine.specs.Following.{at_first, Says, count_is, says_by}
+use Rattle.frame_machine.proofs.Following.{at_first, Says, count_is, says_by}
 use Rattle.frame_machine.specs.Stated.{Kept, Keeping}
 
 -- the interval at k closes the frame and completes no bit: the machine holds the parts, and their bytes stand first in the

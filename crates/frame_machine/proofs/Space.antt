@@ -16,7 +16,7 @@ use Rattle.frame_machine.specs.declared.Event.{Event}
 use Rattle.frame_machine.specs.declared.Event.TheVariants.{Going, Byte, Closed, Faulty}
 use Rattle.frame_machine.specs.declared.Stepped.{Stepped}
 use Rattle.frame_machine.specs.Steps.{faulty, closing, begun, part_of, sof_phase, needed_of, eod_in, eod_of, close_of, bit_of, sof_of, step_of}
-use Rattle.frame_machine.specs.BitDoes.{push_full}
+use Rattle.frame_machine.proofs.BitDoes.{push_full}
 
 -- the event tells of a byte
 abbrev tells : Event → Bool

@@ -21,7 +21,7 @@ use Rattle.frame_machine.specs.Meaning.{meaning_of}
 use Rattle.frame_machine.specs.Holding.{so_far, holding}
 use Rattle.frame_machine.specs.HoldingLaws.{count_of, began_within}
 use Rattle.frame_machine.specs.Does.{Does, faults, closes, goes, stores}
-use Rattle.frame_machine.specs.StepDoes.{positive, fresh_holds, step_does}
+use Rattle.frame_machine.proofs.StepDoes.{positive, fresh_holds, step_does}
 use Rattle.frame_machine.specs.Holding.{Before}
 
 -- At the SOF's place there is nothing yet.

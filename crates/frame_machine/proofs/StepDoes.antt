@@ -16,8 +16,8 @@ use Rattle.frame_machine.specs.Steps.{faulty, sof_of, step_of, fresh}
 use Rattle.frame_machine.specs.Meaning.{meaning_of}
 use Rattle.frame_machine.specs.Holding.{so_far, holding}
 use Rattle.frame_machine.specs.Does.{Does, faults, goes}
-use Rattle.frame_machine.specs.BitDoes.{bit_does}
-use Rattle.frame_machine.specs.CloseDoes.{eod_does, end_does}
+use Rattle.frame_machine.proofs.BitDoes.{bit_does}
+use Rattle.frame_machine.proofs.CloseDoes.{eod_does, end_does}
 
 -- No fault has the number 0.
 pub some_fault : (f : Fault) → eqb (fault_number f) 0 ≡ false
