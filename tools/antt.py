@@ -102,7 +102,7 @@ class Spec:
         it = Named(self, name, i, text, marks)
         it.spans, it.within = [(above, e)], within
         self.named.setdefault(name, it)
-        self.named.setdefault(name.strip("_"), it)  # an operator
+        self.named.setdefault(name.strip("◌"), it)  # an operator
         return it
 
     def runs(self, some):
@@ -137,7 +137,7 @@ class Spec:
         path, brace, names = text.rstrip("; ").partition(".{")
         for part in names.rstrip("} ").split(",") if brace else []:
             old, _, new = part.strip().partition(" as ")
-            self.uses[new or old] = self.uses[(new or old).strip("_")] = (path, old)
+            self.uses[new or old] = self.uses[(new or old).strip("◌")] = (path, old)
         if not brace:
             path, _, alias = path.partition(" as ")
             self.aliases[alias or path.split(".")[-1]] = path
@@ -160,14 +160,15 @@ class Source(Spec):
                 i += 1
                 continue
             typed, call = RUST_TYPE.match(line), RUST_CALL.match(line)
-            use = re.match(r"^(ghost |pub )?use ([^;]+);", line)
+            use = re.match(r"^(ghost |pub )?use ([^;]+);", "\n".join(bare(x, "//") for x in self.lines[i : ending(self.lines, i, len(self.lines), 0) + 1]))
             if use and use.group(1) == "ghost ":
-                self.use(use.group(2))
+                self.use(" ".join(use.group(2).split()))
             elif use:
-                where, _, name = use.group(2).rpartition("::")
-                self.rust[name] = where
-                if use.group(1):
-                    self.passed[name] = where
+                where, _, some = " ".join(use.group(2).split()).partition("::{")
+                for name in some.rstrip("} ").split(",") if some else [where.rpartition("::")[2]]:
+                    self.rust[name.strip()] = path = where if some else where.rpartition("::")[0]
+                    if use.group(1):
+                        self.passed[name.strip()] = path
             elif typed or call:
                 e = i + 1
                 while e < len(self.lines) and not (self.lines[e - 1].startswith("}") or (typed and line.rstrip().endswith((";", "}")))):
@@ -238,7 +239,7 @@ def names(text, constructors, bound=()):
         elif t == "let":
             scopes[-1].add(ahead(rf"\s*({WORD})").group(1))
         elif t == ".":
-            k += bool(ahead(WORD)) and (k == 0 or toks[k - 1].isspace() or toks[k - 1] in "()")  # the name of a field
+            k += bool(ahead(WORD))  # the name of a field
         elif any(t in s for s in scopes) or (len(scopes) > 1 and ahead(r"\s*=\s")):
             pass  # bound, or a field of a record that is made
         elif ahead(rf"\.{WORD}"):

@@ -1,19 +1,20 @@
-# How the proved library and the proved programs are linked and run on this machine. The Rattle kit proves on any machine that
-# it has a folder for, and compiles for x86-64 Linux alone. On such a machine its code is linked and run as it is. Elsewhere,
-# as on Arm, it is linked by a compiler for x86-64 and run by an emulator, as far as these are installed.
+# How the proved library and the proved programs are linked and run on this machine. The Rattle kit compiles for x86-64 Linux
+# alone. On such a machine its code is linked and run as it is. Elsewhere, as on Arm, it is linked by a compiler for x86-64 and run
+# by an emulator, as far as these are installed. The kit of today is itself for x86-64, so that elsewhere it has to run by an
+# emulator too.
 #
 # Sourced by the tools, from the project's root. It sets:
 #   CC         a C compiler for x86-64
 #   BINUTILS   what stands before ar, nm and objdump that know x86-64
 #   RUSTC      a Rust compiler for x86-64, with its words
 #   RUN        what stands before a program that these have built; nothing where it runs as it is
-#   DESK       a command that runs target/bin/desk
+#   DESK       a command that runs crates/desk/out/desk, the desk as it was last proved
 #   EMULATED   yes where programs run by an emulator, which takes ten to twenty times as long
 #   LACKS_C, LACKS_RUST, LACKS_DESK
 #              what is missing for a C program, for a Rust program and for the desk; nothing where each can be built and run
 
 machine=$(uname -m)
-CC='' BINUTILS='' RUSTC='' RUN='' DESK=target/bin/desk EMULATED=no LACKS_C='' LACKS_RUST='' LACKS_DESK=''
+CC='' BINUTILS='' RUSTC='' RUN='' DESK=crates/desk/out/desk EMULATED=no LACKS_C='' LACKS_RUST='' LACKS_DESK=''
 
 # The kit's folder, found as rt finds it.
 kit_home() {
@@ -21,6 +22,16 @@ kit_home() {
     kit_rt=$(command -v rt) || return
     kit_rt=$(readlink -f "$kit_rt")
     echo "${kit_rt%/bin/*}"
+}
+
+# Whether the desk that stands there was made of the files as they are.
+desk_is_new() {
+    [ -x crates/desk/out/desk ] && [ -z "$(find crates.txt crates -name out -prune -o -type f -newer crates/desk/out/desk -print)" ]
+}
+
+# Proves and builds the desk where it is not new. What the prover says goes to the file named.
+desk_proved() {
+    desk_is_new || (cd crates/desk && rt run -- --help) >"$1" 2>&1 || desk_is_new
 }
 
 # The first emulator of x86-64: on the PATH, or the one that the kit has beside its compiler.
@@ -53,7 +64,7 @@ else
     else
         # A program runs with the C library that it was linked with: the desk with the kit's.
         libraries=$(kit_home)/toolchain/lib DESK=target/platform/desk
-        printf '#!/bin/sh\nexec "%s" "%s" --library-path "%s" "%s" "$@"\n' "$emulates" "$libraries/ld-linux-x86-64.so.2" "$libraries" "$PWD/target/bin/desk" >$DESK.$$
+        printf '#!/bin/sh\nexec "%s" "%s" --library-path "%s" "%s" "$@"\n' "$emulates" "$libraries/ld-linux-x86-64.so.2" "$libraries" "$PWD/crates/desk/out/desk" >$DESK.$$
         chmod +x $DESK.$$
         mv -f $DESK.$$ $DESK # whole at every moment: another tool may be running it
     fi

@@ -2,7 +2,7 @@
 
   compare.py DESK SECOND CASES SEED
 
-DESK is target/bin/desk, SECOND the second program. Ends with status 1 at the first difference, and keeps that input in the file
+DESK is crates/desk/out/desk, SECOND the second program. Ends with status 1 at the first difference, and keeps that input in the file
 that it names.
 """
 import itertools

@@ -11,7 +11,7 @@ use Rattle.symbol.specs.declared.Clock.{Clock}
 use Rattle.symbol.specs.Clocks.{good_of}
 use Rattle.checkbyte.specs.Register.{with_check}
 use Rattle.frame.specs.declared.Response.TheVariants.{Without}
-use Rattle.frame.specs.WidthLaws.{with_check_length}
+use Rattle.frame.proofs.WidthLaws.{with_check_length}
 use Rattle.frame.specs.Faults.{most_bytes}
 use Rattle.frame.specs.Writing.{most_words}
 use Rattle.frame.specs.Writing as writer

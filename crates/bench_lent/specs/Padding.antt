@@ -1,6 +1,6 @@
 -- Laws.
 -- A row and blank stations past its end: the same rules, the same round, idle past the row.
-use Prim.Native.Nat.{ℕ, zero, suc, ◌+◌, ◌-◌}
+use Prim.Native.Nat.{ℕ, zero, suc}
 use Rattle.std.specs.Prelude.{◌≡◌, Bool, cond, not, length, replicate}
 use Rattle.std.proofs.Math.Path.{refl, ap}
 use Rattle.std.proofs.Common.{◌∙◌, arith}

@@ -13,7 +13,7 @@ use Rattle.std.proofs.Math.Seq.{get_or-take}
 use Rattle.symbol.specs.declared.Clock.{Clock}
 use Rattle.symbol.specs.Sending.{bit_width}
 use Rattle.frame.specs.Bits.{bits_of}
-use Rattle.frame.specs.ByteLaws.{bits_length, bits_at}
+use Rattle.frame.proofs.ByteLaws.{bits_length, bits_at}
 use Rattle.bench.specs.declared.Fared.TheVariants.{Idle, Through, Lost}
 use Rattle.bench.specs.Stations.{most_stations}
 use Rattle.bench.specs.Course.{Pulse, Seat, out, on, asked, shortest, longest, heard, fared_at}

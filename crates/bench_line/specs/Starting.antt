@@ -11,7 +11,7 @@ use Rattle.symbol.specs.declared.Clock.{Clock}
 use Rattle.symbol.specs.Sending.{bit_width}
 use Rattle.checkbyte.specs.Register.{check_of, with_check}
 use Rattle.frame.specs.Bits.{bits_of}
-use Rattle.frame.specs.ByteLaws.{bits_append, bits_length}
+use Rattle.frame.proofs.ByteLaws.{bits_append, bits_length}
 use Rattle.bench.specs.declared.Station.{Station}
 use Rattle.bench.specs.declared.Fared.TheVariants.{Idle, Lost}
 use Rattle.bench.specs.Stations.{most_stations, most_stored, Bits, stored, empty, blank}

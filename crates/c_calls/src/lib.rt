@@ -1,6 +1,8 @@
 // The open calls for C, Rust and Python, but those on a live reader; include/j1850.h says what each takes and answers. Each
 // call hands its arguments to the room that does the work and gives that room's answer as numbers, the number of what came
 // of it first. Those numbers are document 01's; 61 and 62 are our own.
+#![tactic(auto)]
+
 mod row;
 
 ghost use Rattle.std.specs.Prelude.{◌≡◌, length};

@@ -1,5 +1,7 @@
 // What the calls on volts, frames and the desk's text, and the small questions, answer to other languages: structs of plain
 // numbers. The number of what came of a call stands first: document 01's, or one of the desk's own, 61 and 62.
+#![tactic(auto)]
+
 ghost use Rattle.std.specs.Prelude.{◌≡◌};
 ghost use Rattle.volts.specs.Promise.{numbered};
 ghost use Rattle.frame.specs.ReadPromise.{told, bare as bare_told};

@@ -1,6 +1,8 @@
 // The open calls on a lent live reader for C, Rust and Python. The reader is handed on as it is lent, and changed in place.
 // They are compiled apart from the other calls, so that the frame machine is laid out once in the loop that reads a whole
 // recording and once here.
+#![tactic(auto)]
+
 ghost use Rattle.std.specs.Prelude.{◌≡◌, length};
 ghost use Rattle.live.specs.Feeding.{started, fed_of, lent_of, asked_of};
 ghost use Rattle.c_live_answers.specs.Answers.{heard_as, asked_as};

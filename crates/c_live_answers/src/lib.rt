@@ -1,4 +1,6 @@
 // What the calls on a lent live reader answer to other languages: the live reader's answers as structs of plain numbers.
+#![tactic(auto)]
+
 ghost use Rattle.std.specs.Prelude.{◌≡◌};
 ghost use Rattle.c_live_answers.specs.Answers.{heard_as, asked_as, heard_bare};
 

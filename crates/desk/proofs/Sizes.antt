@@ -1,4 +1,4 @@
--- The whole text of an input stands first in the page, and the bytes that were read fit the buffer.
+-- The whole text of an input stands first in the page.
 use Prim.Native.Nat.{ℕ, zero, suc, ◌≤◌}
 use mathlib.Core.Path.{◌≡◌, refl, sym, ap, ◌∙◌}
 use mathlib.Core.List.{List}
@@ -6,12 +6,8 @@ use mathlib.Core.Logic.{inl, inr}
 use native.Mathlib.Omega.{arith}
 use lib.ListN.{length, take, drop}
 use lib.Seq.{take-append_seam}
-use Rattle.io.specs.Counts.{IsPrefixLen}
-use Rattle.desk.specs.declared.Filled.{Filled}
-use Rattle.desk.specs.declared.Filled.TheVariants.{Bytes}
 use Rattle.desk.specs.declared.Text.{Text}
 use Rattle.desk.specs.Texts.{WholeText}
-use Rattle.desk.specs.Filling.{Within}
 use Rattle.desk_text.specs.declared.Answered.{Answered}
 use Rattle.desk_text.specs.declared.Answered.TheVariants.{Report, Refused, FewLent}
 use Rattle.desk_text.specs.Report.{desk_of}
@@ -53,7 +49,3 @@ module _ {s words left entry exit : List ℕ} {r : Answered} (q : DeskPromise s 
 
   pub text_never : {t : Text} → r ≡ FewLent → WholeText s exit t
   text_never e = absurd (enough ((desk_61 q).exactly.0 (ap (λ (a : Answered). (answered_told a).number) e)))
-
--- The bytes that were read stand in the buffer.
-pub filled_counts : {f : Filled} {n : ℕ} (buf : List ℕ) → f ≡ Bytes n → Within f buf → IsPrefixLen n buf
-filled_counts buf e h = rw e at h

@@ -8,4 +8,4 @@ use Rattle.desk.specs.declared.Filled.TheVariants.{Bytes, Failed}
 -- the bytes read stand in the buffer
 abbrev pub Within : Filled → List ℕ → Type 0
 Within (Bytes n) buf = IsPrefixLen n buf
-Within Failed buf = Unit {0}
+Within (Failed error) buf = Unit {0}

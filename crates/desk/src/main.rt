@@ -1,5 +1,8 @@
 // The desk: reads a recording's text and writes what the recording holds. What it writes for every input is defined in the
 // room `desk_text`; here a file or standard input is read, and the text is written.
+#![tactic(auto)]
+
+mod failure;
 mod help;
 mod reasons;
 
@@ -11,11 +14,21 @@ ghost use Rattle.desk.specs.Texts.{WholeText};
 ghost use Rattle.desk.specs.Filling.{Within};
 
 use desk_text::{Answered, MOST_TEXT, MOST_WIDTHS};
-use libc::{STDERR_FILENO, STDIN_FILENO, STDOUT_FILENO};
+use failure::fail;
+use std::env::FillError;
+use std::io::{Error, ErrorKind, Read};
+use std::rt::{Env, Files};
+use std::{fs, str};
 
 // One byte more than the longest good input has, so that an input that is too long is seen to be. What follows it changes
 // nothing, and is not read.
 const ENOUGH: usize = 229415;
+
+// The longest name of a file that the system takes, with the zero that ends it.
+const LONGEST_NAME: usize = 4096;
+
+// The system's number for the error that a name is too long.
+const NAME_TOO_LONG: i32 = 36;
 
 // Bytes for the input.
 fn space() -> [u8; ENOUGH]
@@ -38,37 +51,32 @@ fn page() -> [u8; MOST_TEXT]
     [0u8; MOST_TEXT]
 }
 
-// How many bytes were read, or that reading failed.
+// How many bytes were read, or why reading failed.
 #[derive(Drop)]
 enum Filled {
     Bytes(usize),
-    Failed,
+    Failed(Error),
 }
 
 // Reads until the buffer is full or the input ends.
-fn fill(fd: i32, buf: &mut [u8]) -> Filled
+fn fill(reader: &mut impl Read, buf: &mut [u8]) -> Filled
     ensures { Within result buf.new }
 {
     let mut done = 0;
     while done < buf.len() {
-        let got = libc::read(fd, &mut buf[done..]);
-        if got < 0 {
-            return Filled::Failed;
+        match reader.read(&mut buf[done..]) {
+            Ok(0) => return Filled::Bytes(done),
+            Ok(n) => done += n,
+            Err(error) => return Filled::Failed(error),
         }
-        let n = io::count(got, &buf[done..]);
-        if n == 0 {
-            return Filled::Bytes(done);
-        }
-        done += n;
     }
     Filled::Bytes(done)
 }
 
 // Writes a text on standard output. Where that fails or stops short it is told, with what the system said.
-fn put_out(text: &[u8]) {
-    let all = io::write_all(STDOUT_FILENO, text);
-    if !all {
-        os::fail(b"standard output");
+fn put_out(rt: &(impl Print + Eprint + Alloc), text: &[u8]) {
+    if let Err(error) = rt.write_all(text) {
+        fail(rt, "standard output", error);
     }
 }
 
@@ -93,67 +101,77 @@ fn text_in(input: &[u8], words: &mut [u32], page: &mut [u8]) -> Text
 }
 
 // Writes the text of an input, and why it is refused where it is.
-fn answer(input: &[u8]) {
+fn answer(rt: &(impl Print + Eprint + Alloc), input: &[u8]) {
     let mut words = words();
     let mut page = page();
     let text = text_in(input, &mut words, &mut page);
-    put_out(&page[..text.length]);
-    reasons::tell(input, text.line);
+    put_out(rt, &page[..text.length]);
+    reasons::tell(rt, input, text.line);
 }
 
-// Answers what a descriptor gives; a failure is told with the name.
-fn serve(fd: i32, name: &[u8]) {
+// Answers what a reader gives; a failure is told with the name.
+fn serve(rt: &(impl Print + Eprint + Alloc), reader: &mut impl Read, name: &str) {
     let mut buf = space();
-    let filled = fill(fd, &mut buf);
-    match filled {
-        Filled::Bytes(n) => answer(&buf[..n]),
-        Filled::Failed => os::fail(name),
+    match fill(reader, &mut buf) {
+        Filled::Bytes(n) => answer(rt, &buf[..n]),
+        Filled::Failed(error) => fail(rt, name, error),
     }
+}
+
+// Answers standard input.
+fn serve_input(rt: &(impl Input + Print + Eprint + Alloc)) {
+    let mut reader = rt.reader();
+    serve(rt, &mut reader, "standard input");
 }
 
 // Answers a file.
-fn serve_file(name: &[u8]) {
-    let fd = os::open_read(name);
-    if fd < 0 {
-        os::fail(name);
-        return;
+fn serve_file(rt: &(impl Files + Print + Eprint + Alloc), name: &str) {
+    match fs::open(rt, name) {
+        Ok(mut file) => serve(rt, &mut file, name),
+        Err(error) => fail(rt, name, error),
     }
-    serve(fd, name);
-    libc::close(fd);
 }
 
 // The one argument: `-`, `--help` or a name.
-fn serve_named(name: &[u8]) {
+fn serve_named(rt: &(impl Files + Input + Print + Eprint + Alloc), name: &[u8]) {
     if desk_field::same(name, b"-") {
-        serve(STDIN_FILENO, b"standard input");
+        serve_input(rt);
         return;
     }
     if desk_field::same(name, b"--help") {
-        help::print();
+        help::print(rt);
         return;
     }
-    serve_file(name);
+    match str::from_utf8(name) {
+        Ok(name) => serve_file(rt, name),
+        Err(_) => fail(
+            rt,
+            "desk: the argument",
+            Error::new(ErrorKind::InvalidFilename, "it is not UTF-8"),
+        ),
+    }
+}
+
+// Whether there is an argument of this number, however long it is.
+fn given(rt: &impl Env, number: usize) -> bool {
+    let mut text = [0u8; 1];
+    !matches!(rt.arg(number, &mut text), Err(FillError::NotPresent))
 }
 
 // One argument at most: a file, `-` or `--help`.
-fn main() {
-    let count = os::arg_count();
-    if count > 2 {
-        io::write_all(
-            STDERR_FILENO,
-            b"desk: one file at most; desk --help says more\n",
-        );
+fn main(rt: HostRuntime) {
+    if given(&rt, 2) {
+        let _ = eprintln!(rt; "desk: one file at most; desk --help says more");
         return;
     }
-    if count < 2 {
-        serve(STDIN_FILENO, b"standard input");
-        return;
+    let mut name = [0u8; LONGEST_NAME];
+    match rt.arg(1, &mut name) {
+        Ok(n) => serve_named(&rt, &name[..n]),
+        Err(FillError::NotPresent) => serve_input(&rt),
+        Err(FillError::TooLong) => fail(
+            &rt,
+            "desk: the argument",
+            Error::from_raw_os_error(NAME_TOO_LONG),
+        ),
     }
-    let mut name = io::buffer();
-    let n = os::arg(1, &mut name);
-    if os::errno() != 0 {
-        os::fail(b"desk: the argument");
-        return;
-    }
-    serve_named(&name[..n]);
 }

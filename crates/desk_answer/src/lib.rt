@@ -1,5 +1,7 @@
 // What the lines of the text take from an answer, by value: where reading goes on after it, the mark of its response and the
 // hex digits of its bytes. And whether what a caller lends is too little.
+#![tactic(auto)]
+
 ghost use Rattle.std.specs.Prelude.{◌≡◌, ◌/◌, ◌%◌, ◌<◌};
 ghost use Rattle.desk_text.specs.Promise.{lent_short};
 ghost use Rattle.desk_text.specs.Numerals.{hex_digit};

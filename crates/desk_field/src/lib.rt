@@ -1,5 +1,7 @@
 // Judging one field of the desk's input: whether it is a certain word, and which width it spells. What a width is is defined in
 // the room below.
+#![tactic(auto)]
+
 ghost use Rattle.std.specs.Prelude.{◌≡◌, ◌<◌};
 ghost use Rattle.desk_text.specs.Grammar.{same as same_of, past_u32};
 ghost use Rattle.desk_field.specs.Widths.{number_of, width_of};

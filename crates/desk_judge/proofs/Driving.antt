@@ -10,7 +10,7 @@ use lib.Dec.{leb}
 use lib.ListN.{length, take, drop, set, length-set, length-drop}
 use lib.Seq.{sets, length-take-le, take-add, drop_at}
 use borrow.Author.Tests.{le-leb, lt-leb, leb-true}
-use Rattle.bytes.specs.Bytes.{index_of, slice}
+use Rattle.desk_text.specs.Places.{index_of, slice}
 use Rattle.laws.specs.Tests.{never, both}
 use Rattle.desk_text.specs.Grammar.{spelt}
 use Rattle.desk_text.specs.Input.{Line, shut, unshut, lines, field, iv_line, iv_at, most_widths, bad_from, widths_from}

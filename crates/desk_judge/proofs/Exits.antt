@@ -9,7 +9,7 @@ use lib.Dec.{eqb}
 use lib.ListN.{length, take, drop}
 use lib.Seq.{sets}
 use borrow.Author.Tests.{lt-ltb, le-ltb, eq-eqb, ne_eqb}
-use Rattle.bytes.specs.Bytes.{index_of, slice}
+use Rattle.desk_text.specs.Places.{index_of, slice}
 use Rattle.laws.specs.Lent.{sets_first}
 use Rattle.laws.specs.Tests.{up_to}
 use Rattle.desk_text.specs.declared.Labels.{Labels}

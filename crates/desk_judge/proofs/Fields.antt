@@ -9,7 +9,7 @@ use lib.Dec.{eqb}
 use lib.ListN.{length, take, drop, length-drop}
 use lib.Seq.{length-take-le}
 use borrow.Author.Tests.{not-true, not-false, eq-eqb, ne_eqb, eqb-true, eqb-false}
-use Rattle.bytes.specs.Bytes.{index_of, slice}
+use Rattle.desk_text.specs.Places.{index_of, slice}
 use Rattle.label.specs.Labels.{label_byte, is_label}
 use Rattle.desk_text.specs.Grammar.{tab, fields, same, digit, is_width}
 use Rattle.desk_text.specs.Input.{own, iv, iv_line, own_line}

@@ -1,12 +1,14 @@
 // Judging the desk's input: its labels and widths, or the number of its first bad line. What a good line is, and which line
 // is the first bad one, is defined in `desk_text`.
+#![tactic(auto)]
+
 ghost use Rattle.std.specs.Prelude.{◌≡◌, ◌≤◌, length};
 ghost use Rattle.desk_text.specs.Input.{lines, most_widths, bad_from};
 ghost use Rattle.desk_text.specs.Promise.{JudgePromise};
 ghost use Rattle.desk_judge.specs.Found.{iv_of, labels_of, own_of, WidthsLaid, AfterOwn};
 
 use desk_field::{Width, same, width_in};
-use desk_text::{JudgedInput, Labels, MOST_WIDTHS};
+use desk_text::{JudgedInput, Labels, MOST_WIDTHS, find};
 use label::is_label;
 
 // The byte that closes a line, and the byte that parts fields.
@@ -31,7 +33,7 @@ enum Own {
 fn iv_line(s: &[u8]) -> Width
     ensures { result ≡ iv_of s.now }
 {
-    let m = bytes::scan::find(s, 0, s.len(), TAB);
+    let m = find(s, 0, s.len(), TAB);
     if m == s.len() {
         return Width::Not;
     }
@@ -45,7 +47,7 @@ fn iv_line(s: &[u8]) -> Width
 fn two_labels(s: &[u8]) -> Own
     ensures { result ≡ labels_of s.now }
 {
-    let m = bytes::scan::find(s, 0, s.len(), TAB);
+    let m = find(s, 0, s.len(), TAB);
     if m == s.len() {
         return Own::Not;
     }
@@ -65,7 +67,7 @@ fn two_labels(s: &[u8]) -> Own
 fn own_line(s: &[u8]) -> Own
     ensures { result ≡ own_of s.now }
 {
-    let m = bytes::scan::find(s, 0, s.len(), TAB);
+    let m = find(s, 0, s.len(), TAB);
     if m == s.len() {
         return Own::Not;
     }
@@ -82,7 +84,7 @@ fn bad_line(s: &[u8]) -> usize
     let mut t = s;
     let mut k = 0;
     while t.len() > 0 {
-        let e = bytes::scan::find(t, 0, t.len(), NEWLINE);
+        let e = find(t, 0, t.len(), NEWLINE);
         if e == t.len() {
             return FIRST_WIDTH_LINE + k;
         }
@@ -109,7 +111,7 @@ fn lay_widths(s: &[u8], lent: &mut [u32]) -> usize
     let mut t = s;
     let mut k = 0;
     while t.len() > 0 {
-        let e = bytes::scan::find(t, 0, t.len(), NEWLINE);
+        let e = find(t, 0, t.len(), NEWLINE);
         let found = width_in(&t[WIDTH..e]);
         match found {
             Width::Of(x) => {
@@ -130,7 +132,7 @@ pub fn judge(input: &[u8], lent: &mut [u32]) -> JudgedInput
     if lent.len() < MOST_WIDTHS {
         return JudgedInput::FewLentWords;
     }
-    let e = bytes::scan::find(input, 0, input.len(), NEWLINE);
+    let e = find(input, 0, input.len(), NEWLINE);
     if e == input.len() {
         return JudgedInput::Bad { line: 1 };
     }

@@ -6,7 +6,7 @@ use mathlib.Core.List.{List, [], ◌∷◌}
 use mathlib.Core.Logic.{◌⊎◌, inl, inr}
 use native.Mathlib.Omega.{arith}
 use lib.ListN.{length, take, drop, get_or, length-drop}
-use Rattle.bytes.specs.Bytes.{index_of, slice}
+use Rattle.desk_text.specs.Places.{index_of, slice}
 use Rattle.desk_text.specs.Input.{shut, unshut, lines}
 use Rattle.desk_text.specs.FoundLines.{rest_all, open_line, closed_line}
 use Rattle.desk_reason.specs.declared.Reason.{Reason}

@@ -1,9 +1,11 @@
 // Why the first bad line of an input is bad. The desk's text says only which line it is; people are told this besides.
+#![tactic(auto)]
+
 ghost use Rattle.std.specs.Prelude.{◌≡◌};
 ghost use Rattle.desk_text.specs.Input.{lines};
 ghost use Rattle.desk_reason.specs.Reasons.{reason_at, reason_of, first_of, ends_in_return, open_reason, closed_reason};
 
-use desk_text::MOST_WIDTHS;
+use desk_text::{MOST_WIDTHS, find};
 
 // The byte that closes a line, and the byte that some systems put before it.
 const NEWLINE: u8 = 10;
@@ -34,7 +36,7 @@ pub fn why_bad(input: &[u8], line: usize) -> Reason
     let mut t = input;
     let mut left = line;
     while 1 < left {
-        let e = bytes::scan::find(t, 0, t.len(), NEWLINE);
+        let e = find(t, 0, t.len(), NEWLINE);
         if e == t.len() {
             return Reason::Missing;
         }
@@ -48,7 +50,7 @@ pub fn why_bad(input: &[u8], line: usize) -> Reason
 fn why_first(t: &[u8], line: usize) -> Reason
     ensures { result ≡ reason_of line (first_of t.now) }
 {
-    let e = bytes::scan::find(t, 0, t.len(), NEWLINE);
+    let e = find(t, 0, t.len(), NEWLINE);
     if e == t.len() {
         return open_reason(e);
     }

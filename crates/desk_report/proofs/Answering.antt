@@ -1,5 +1,5 @@
 -- What the answer of the call that reads comes to: its line is the line of what reading is defined to answer.
-use Prim.Native.Nat.{ℕ, ◌+◌, ◌≤◌}
+use Prim.Native.Nat.{ℕ, ◌≤◌}
 use mathlib.Core.Path.{◌≡◌, refl, sym, ap, ◌∙◌}
 use mathlib.Core.List.{List, [], ◌∷◌, ◌++◌, append_assoc}
 use native.Mathlib.Omega.{arith}
@@ -11,7 +11,7 @@ use Rattle.frame.specs.declared.Reading.TheVariants.{Frame, Quiet, Unfinished, F
 use Rattle.frame.specs.Faults.{most_bytes}
 use Rattle.frame.specs.Reading.{Good, Outcome, good, reading}
 use Rattle.frame.specs.ReadPromise.{fault_number, bare, told, tells, lent_after, ReadPromise}
-use Rattle.frame.specs.ReadSettled.{told_once}
+use Rattle.frame.proofs.ReadSettled.{told_once}
 use Rattle.desk_text.specs.Grammar.{tab}
 use Rattle.desk_text.specs.Numerals.{decimal, hex}
 use Rattle.desk_text.specs.Report.{w_frame, w_quiet, w_unfinished, w_fault, w_none, line_of, marked, answer_text}

@@ -11,7 +11,8 @@ use Rattle.frame.specs.Line.{single}
 use Rattle.frame.specs.Faults.{most_bytes}
 use Rattle.frame.specs.Reading.{Outcome, good, quiet, unfinished, faulty, refused}
 use Rattle.frame.specs.ReadStated.{goes_on}
-use Rattle.frame.specs.ReadingOn.{next_of, progress, ReadsOn, last, more, answers_in, reads_on, reads_once}
+use Rattle.frame.specs.ReadingOn.{next_of, last, more, reads_once}
+use Rattle.frame.proofs.RecordingOn.{progress, ReadsOn, answers_in, reads_on}
 use Rattle.desk_text.specs.Report.{answer_text, answers_text}
 use Rattle.desk_answer.specs.declared.Next.TheVariants.{At, Nowhere}
 use Rattle.desk_report.specs.declared.lines.Step.{Step}

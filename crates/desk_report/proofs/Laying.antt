@@ -1,12 +1,12 @@
 -- Laws of laying text: one text after another, space for what is left, and how each function's stores lay its text.
 use Prim.Native.Nat.{ℕ, zero, suc, ◌+◌, ◌-◌, ◌*◌, ◌/◌, ◌%◌, ◌^◌, ◌≤◌, ◌<◌}
 use mathlib.Core.Path.{◌≡◌, refl, sym, ap, ◌∙◌}
-use mathlib.Core.List.{List, [], ◌∷◌, ◌++◌, append-nil, append_assoc}
+use mathlib.Core.List.{List, [], ◌∷◌, ◌++◌, append_assoc}
 use native.Mathlib.Numerals.{add-one}
 use native.Mathlib.Omega.{arith}
 use native.Mathlib.Nat.{pow-suc, pow-le-pow_right, le_trans}
-use lib.ListN.{length, get_or, take, drop, set, length-set, length-append, length-drop, drop_of_length-le}
-use lib.Seq.{sets, sets-eq, length-sets, take-length, take_all, drop-drop, drop-cons}
+use lib.ListN.{length, get_or, take, drop, set, length-set, length-append, drop_of_length-le}
+use lib.Seq.{sets, sets-eq, length-sets, drop-drop, drop-cons}
 use mathlib.Core.Logic.{◌⊎◌, inl, inr}
 use borrow.Author.Tests.{lt-ltb, le-ltb}
 use borrow.Rule.Slice.PartMut.{put_mid, post_of}
@@ -39,17 +39,16 @@ space_next s t x h = record { fits = omega (arith, h.fits, x.ends, laid_long x, 
 
 -- ## Copied bytes
 
--- what `bytes::copy` into `&mut out[at..]` leaves
-pub laid_copied : (s out ys : List ℕ) (at : ℕ) → at + length s ≤ length out
-    → ys ≡ take (length s) s ++ drop (length s) (take (length out - at) (drop at out))
-    → Laid at s out (put_mid at (length out - at) out ys) (at + length s)
+-- what copying s over `&mut out[at..at + s.len()]` leaves
+pub laid_copied : (s out ys : List ℕ) (at : ℕ) → at + length s ≤ length out → ys ≡ s
+    → Laid at s out (put_mid at (at + length s - at) out ys) (at + length s)
 laid_copied s out ys at h e = record { ends = refl; lays = whole ∙ sym (sets-eq s out at h ∙ append_assoc (take at out) s (drop (at + length s) out)) }
   where
-    tail : drop (length out - at) (drop at out) ≡ []
-    tail = drop_of_length-le (drop at out) {i = length out - at} (omega (arith, length-drop at out))
+    rest : post_of at (at + length s - at) out ≡ drop (at + length s) out
+    rest = drop-drop (at + length s - at) at out ∙ ap (λ (k : ℕ). drop k out) (omega arith)
 
-    whole : take at out ++ (ys ++ post_of at (length out - at) out) ≡ take at out ++ (s ++ drop (at + length s) out)
-    whole = rw (e, tail, append-nil, take-length, take_all (length out - at) (drop at out) (omega (arith, length-drop at out)), drop-drop)
+    whole : take at out ++ (ys ++ post_of at (at + length s - at) out) ≡ take at out ++ (s ++ drop (at + length s) out)
+    whole = rw (e, rest) refl
 
 -- ## Decimal
 

@@ -11,7 +11,7 @@ use borrow.Author.Tests.{le-ltb, ltb-false, eqb-true, eqb-false, ne_eqb}
 use Rattle.laws.specs.Lent.{sets_first}
 use Rattle.laws.specs.Tests.{neither}
 use Rattle.frame.specs.Faults.{most_bytes}
-use Rattle.frame.specs.ReadingOn.{answers_in}
+use Rattle.frame.proofs.RecordingOn.{answers_in}
 use Rattle.desk_text.specs.declared.Labels.{Labels}
 use Rattle.desk_text.specs.declared.JudgedInput.{JudgedInput}
 use Rattle.desk_text.specs.declared.JudgedInput.TheVariants.{Good, Bad, FewLentWords}

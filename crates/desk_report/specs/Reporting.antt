@@ -3,7 +3,7 @@
 use Rattle.std.specs.Prelude.{ℕ, ◌+◌, ◌-◌, ◌≤◌, ◌≡◌, List, length, take, drop}
 use Rattle.frame.specs.Faults.{most_bytes}
 use Rattle.frame.specs.Reading.{Outcome, good, quiet, unfinished, faulty, refused, reading}
-use Rattle.frame.specs.ReadingOn.{answers_in}
+use Rattle.frame.proofs.RecordingOn.{answers_in}
 use Rattle.desk_text.specs.declared.Labels.{Labels}
 use Rattle.desk_text.specs.Report.{answer_text, answers_text}
 use Rattle.desk_text.specs.LabelPlaces.{customer_place}

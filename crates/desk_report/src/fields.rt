@@ -10,8 +10,9 @@ pub(crate) fn put(s: &[u8], lent: &mut [u8], at: usize) -> usize
     requires { Space at s.now lent.old }
     ensures { Laid at s.now lent.old lent.new result }
 {
-    bytes::copy(s, &mut lent[at..]);
-    at + s.len()
+    let end = at + s.len();
+    lent[at..end].copy_from_slice(s);
+    end
 }
 
 // A field and the tab after it.

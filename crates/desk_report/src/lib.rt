@@ -1,5 +1,7 @@
 // The desk's text, whole: a report of what a recording holds, or the refusal of an input, laid into lent bytes. What the text
 // is for every input is defined in the room `desk_text`.
+#![tactic(auto)]
+
 mod fields;
 mod lines;
 

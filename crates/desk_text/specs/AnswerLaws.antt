@@ -1,6 +1,6 @@
 -- Laws.
 -- What the answers of a recording can be: reading from within it, with twelve bytes lent, is never turned away.
-use Rattle.std.specs.Prelude.{ℕ, ◌+◌, ◌-◌, ◌%◌, ◌≤◌, ◌<◌, ◌≡◌, refl, true, List, length}
+use Rattle.std.specs.Prelude.{ℕ, ◌+◌, ◌%◌, ◌≤◌, ◌<◌, ◌≡◌, refl, true, List, length}
 use Rattle.std.proofs.Common.{arith}
 use Rattle.std.proofs.lemmas.Bool.{eqb-false}
 use Rattle.symbol.specs.Clocks.{nominal_clock}
@@ -8,16 +8,16 @@ use Rattle.frame.specs.Line.{symbol_at, single, end_at}
 use Rattle.frame.specs.Standing.{stands}
 use Rattle.frame.specs.Faults.{most_bytes}
 use Rattle.frame.specs.Reading.{Good, Outcome, frame_at, decided, reading}
-use Rattle.frame.specs.ShownLaws.{end_passive}
-use Rattle.frame.specs.Outcomes.{comes}
+use Rattle.frame.proofs.ShownLaws.{end_passive}
+use Rattle.frame.proofs.Outcomes.{comes}
 use Rattle.frame.specs.ReadStated.{Opens, ReadCase, is_past, is_short, is_quiet, is_opened}
-use Rattle.frame.specs.Decided.{Decision, is_unfinished, is_good, is_faulty, decision}
-use Rattle.frame.specs.FaultLaws.{wrong_named, fault_named}
+use Rattle.frame.proofs.Decided.{Decision, is_unfinished, is_good, is_faulty, decision}
+use Rattle.frame.proofs.FaultLaws.{wrong_named, fault_named}
 use Rattle.frame.specs.Admitted.{admitted}
 use Rattle.frame.specs.WriteStated.{Admitted, WrittenAgain}
-use Rattle.frame.specs.Again.{written_again}
+use Rattle.frame.proofs.Again.{written_again}
 use Rattle.frame.specs.Nominal.{without_check, response_bare}
-use Rattle.frame.specs.WidthLaws.{frame_words_length}
+use Rattle.frame.proofs.WidthLaws.{frame_words_length}
 use Rattle.desk_text.specs.Stated.{Answer, is_silence, is_open, is_frame, is_fault}
 
 -- ## Places and sizes

@@ -12,9 +12,10 @@ use Rattle.frame.specs.Faults.{most_bytes}
 use Rattle.frame.specs.Reading.{Outcome, good, quiet, unfinished, faulty, refused, reading}
 use Rattle.frame.specs.ReadPromise.{fault_number}
 use Rattle.frame.specs.ReadStated.{goes_on}
-use Rattle.frame.specs.ReadingOn.{next_of, ReadsOn, last, more, reads_on}
+use Rattle.frame.specs.ReadingOn.{next_of, last, more}
+use Rattle.frame.proofs.RecordingOn.{ReadsOn, reads_on}
 use Rattle.label.specs.Labels.{most_label}
-use Rattle.desk_text.specs.Input.{lines, most_widths}
+use Rattle.desk_text.specs.Input.{most_widths}
 use Rattle.desk_text.specs.Numerals.{decimal}
 use Rattle.desk_text.specs.Report.{line_of, header, at_of, kind_of, main_of, marked, response_of, answer_text, answers_text, answers, report}
 use Rattle.desk_text.specs.Promise.{most_text}

@@ -1,11 +1,11 @@
 -- Laws.
 -- A fixed amount of input decides. A good input has at most 229,414 bytes, and whatever follows the first 229,415 bytes of an
 -- input changes nothing: the line that is bad is bad whatever it goes on with.
-use Rattle.std.specs.Prelude.{ℕ, zero, suc, ◌+◌, ◌-◌, ◌*◌, ◌≤◌, ◌<◌, ◌≡◌, refl, Bool, true, false, ◌&&◌, List, [], ◌∷◌, ◌++◌, ◌⊎◌, eqb, leb, length, take, drop}
+use Rattle.std.specs.Prelude.{ℕ, zero, suc, ◌+◌, ◌*◌, ◌≤◌, ◌<◌, ◌≡◌, refl, Bool, true, false, ◌&&◌, List, [], ◌∷◌, ◌++◌, ◌⊎◌, eqb, leb, length, take, drop}
 use Rattle.std.proofs.Common.{sym, ◌∙◌, inl, inr, arith, length-append, length-drop, length-take-le, ne_eqb}
 use Rattle.std.proofs.lemmas.List.{take-append-le, drop-append-le}
 use Rattle.std.proofs.lemmas.Bool.{lt-leb}
-use Rattle.bytes.specs.Bytes.{index_of, index_after}
+use Rattle.desk_text.specs.Places.{index_of, index_after}
 use Rattle.laws.specs.Tests.{never, both, up_to}
 use Rattle.desk_text.specs.Grammar.{newline}
 use Rattle.desk_text.specs.Input.{Line, shut, unshut, lines, own_line, iv_line, iv_at, most_widths, bad_from, first_bad}

@@ -1,9 +1,9 @@
 -- Laws.
--- What a search for a byte through the whole of a text finds, as `find` of the kit's bytes tells it, and what the first newline
+-- What a search for a byte through the whole of a text finds, as `find` tells it, and what the first newline
 -- that it finds says of the lines.
 use Rattle.std.specs.Prelude.{ℕ, ◌+◌, ◌-◌, ◌≤◌, ◌<◌, ◌≡◌, List, [], ◌∷◌, length, take, drop}
 use Rattle.std.proofs.Common.{sym, ◌∙◌, add-one, arith, length-drop, take_all}
-use Rattle.bytes.specs.Bytes.{index_of, slice}
+use Rattle.desk_text.specs.Places.{index_of, slice}
 use Rattle.desk_text.specs.Grammar.{newline}
 use Rattle.desk_text.specs.Input.{shut, unshut, lines}
 use Rattle.desk_text.specs.PieceLaws.{lines_first, lines_none}

@@ -1,8 +1,8 @@
 -- Laws.
 -- Where the labels of a good input stand in its bytes: the customer's from byte 4 on, the vehicle's after it and a tab.
-use Rattle.std.specs.Prelude.{ℕ, suc, ◌+◌, ◌-◌, ◌≤◌, ◌<◌, ◌≡◌, refl, List, [], ◌∷◌, ◌++◌, ◌⊎◌, length, take, drop}
+use Rattle.std.specs.Prelude.{ℕ, suc, ◌+◌, ◌≤◌, ◌<◌, ◌≡◌, refl, List, [], ◌∷◌, ◌++◌, ◌⊎◌, length, take, drop}
 use Rattle.std.proofs.Common.{sym, ap, ◌∙◌, append_assoc, append-nil, inl, inr, arith, length-append, take-append-drop, take_at, drop_at}
-use Rattle.bytes.specs.Bytes.{index_of}
+use Rattle.desk_text.specs.Places.{index_of}
 use Rattle.laws.specs.Tests.{up_to}
 use Rattle.desk_text.specs.Grammar.{newline, tab}
 use Rattle.desk_text.specs.Input.{lines, own, first_bad, first_line, customer_of, vehicle_of}

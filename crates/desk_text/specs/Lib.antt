@@ -1,4 +1,5 @@
 -- Definitions.
+pub mod Places
 pub mod Grammar
 pub mod Input
 pub mod Numerals

@@ -4,7 +4,7 @@
 use Rattle.std.specs.Prelude.{ℕ, suc, ◌≤◌, ◌<◌, ◌≡◌, refl, Bool, true, false, cond, ◌&&◌, List, [], ◌∷◌, eqb, length, take, drop}
 use Rattle.std.proofs.Common.{◌∙◌, arith, eqb-true}
 use Rattle.std.proofs.Math.Bool.{and-false}
-use Rattle.bytes.specs.Bytes.{index_of, index_after}
+use Rattle.desk_text.specs.Places.{index_of, index_after}
 use Rattle.laws.specs.Tests.{never}
 use Rattle.label.specs.Labels.{every}
 use Rattle.desk_text.specs.Grammar.{newline, longer, pieces, same}

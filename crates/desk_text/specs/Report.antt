@@ -5,7 +5,7 @@ use Rattle.frame.specs.declared.Response.{Response}
 use Rattle.frame.specs.declared.Response.TheVariants.{Without, Plain, Checked}
 use Rattle.frame.specs.Faults.{most_bytes}
 use Rattle.frame.specs.Reading.{Outcome, good, quiet, unfinished, faulty, refused}
-use Rattle.frame.specs.ReadingOn.{answers_in}
+use Rattle.frame.proofs.RecordingOn.{answers_in}
 use Rattle.desk_text.specs.Grammar.{newline, tab}
 use Rattle.desk_text.specs.Input.{Line, lines, first_bad, customer_of, vehicle_of, recording_of}
 use Rattle.desk_text.specs.Numerals.{decimal, hex}

@@ -1,6 +1,6 @@
 -- Laws.
 -- The whole text: what a good and a bad input come to, and how much there is of it.
-use Rattle.std.specs.Prelude.{ℕ, ◌+◌, ◌-◌, ◌≤◌, ◌≡◌, refl, Bool, true, false, cond, List, [], ◌∷◌, eqb, leb, length}
+use Rattle.std.specs.Prelude.{ℕ, ◌+◌, ◌≤◌, ◌≡◌, refl, Bool, true, false, cond, List, [], ◌∷◌, eqb, leb, length}
 use Rattle.std.proofs.Common.{arith, length-append, eqb-true, leb-true, ne_eqb}
 use Rattle.laws.specs.Tests.{both}
 use Rattle.desk_text.specs.Grammar.{spelt}

@@ -8,7 +8,8 @@ use Rattle.frame.specs.Line.{symbol_at, first, opening, bits_from}
 use Rattle.frame.specs.Standing.{stands}
 use Rattle.frame.specs.Faults.{checks_out, fault}
 use Rattle.frame.specs.Reading.{decides, read_on}
-use Rattle.frame.specs.ReadingOn.{answers_by, answers_in}
+use Rattle.frame.specs.ReadingOn.{answers_by}
+use Rattle.frame.proofs.RecordingOn.{answers_in}
 use Rattle.frame.specs.Worked.{ffff}
 use Rattle.label.specs.Labels.{every, label_byte, is_label}
 use Rattle.desk_text.specs.Grammar.{pieces, same, digit, spells, is_width}

@@ -1,5 +1,10 @@
 // The desk's text: the types that callers see. What the text is for every input, and what the calls promise, is defined in
-// specs/, in document 01's words; the code that works it out stands in the rooms above.
+// specs/, in document 01's words; the code that works it out stands in the rooms above, and here only the search for a byte that
+// they share.
+#![tactic(auto)]
+
+ghost use Rattle.std.specs.Prelude.{◌≡◌, ◌+◌, ◌≤◌, length};
+ghost use Rattle.desk_text.specs.Places.{index_of, slice};
 
 // What every input can be answered with: a word for each width that it may have, and bytes for the longest text.
 pub const MOST_WIDTHS: usize = 16384;
@@ -31,4 +36,21 @@ pub enum Answered {
     Report { length: usize },
     Refused { line: usize, length: usize },
     FewLent,
+}
+
+// The place of the first such byte between two places, or the second place where there is none.
+pub fn find(s: &[u8], start: usize, end: usize, byte: u8) -> usize
+    requires start_le_end { start ≤ end }
+    requires end_in_bounds { end ≤ length s.now }
+    ensures place { result ≡ start + index_of byte (slice start end s.now) }
+    ensures within { result ≤ end }
+{
+    let mut i = start;
+    while i < end {
+        if s[i] == byte {
+            return i;
+        }
+        i += 1;
+    }
+    end
 }

@@ -1,6 +1,6 @@
 -- Definitions.
 -- What the machine holds before an interval: all of it is read off where the interval stands in document 01's sense.
-use Rattle.std.specs.Prelude.{ℕ, ◌+◌, ◌<◌, ◌≤◌, Bool, List, [], ◌++◌, length, ◌≡◌}
+use Rattle.std.specs.Prelude.{ℕ, ◌<◌, ◌≤◌, Bool, List, [], ◌++◌, length, ◌≡◌}
 use Rattle.checkbyte.specs.Register.{register_of}
 use Rattle.frame.specs.Bits.{bytes}
 use Rattle.frame.specs.ReadStated.{left_over, shifted_in}

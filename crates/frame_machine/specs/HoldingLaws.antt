@@ -1,10 +1,10 @@
 -- Laws.
 -- How the numbers that the machine holds hang together: it counts the bytes so far, which are those before the part and
 -- the part's own.
-use Rattle.std.specs.Prelude.{◌+◌, ◌≤◌, ◌≡◌, refl, ◌++◌, length}
+use Rattle.std.specs.Prelude.{◌≤◌, ◌≡◌, refl, ◌++◌, length}
 use Rattle.std.proofs.Common.{ap, ◌∙◌, append-nil, arith, length-append}
 use Rattle.frame.specs.Bits.{bytes}
-use Rattle.frame.specs.BitLaws.{bytes_none}
+use Rattle.frame.proofs.BitLaws.{bytes_none}
 use Rattle.frame.specs.Standing.{plain, checked, Standing, at_sof, in_main, at_normalization, in_response}
 use Rattle.frame.specs.Faults.{part_bytes}
 use Rattle.frame_machine.specs.Holding.{earlier, so_far, holding}

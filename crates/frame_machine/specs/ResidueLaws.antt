@@ -1,7 +1,7 @@
 -- Laws.
 -- The machine judges a check byte by the register alone. That is document 01's test: the register over a part comes to
 -- 0xC4 exactly where the part's last byte is the check byte of those before it.
-use Rattle.std.specs.Prelude.{ℕ, zero, suc, ◌+◌, ◌-◌, ◌≤◌, ◌<◌, ◌≡◌, refl, Bool, true, false, List, [], ◌∷◌, ◌++◌, eqb, length, get_or, take}
+use Rattle.std.specs.Prelude.{ℕ, zero, suc, ◌-◌, ◌≤◌, ◌<◌, ◌≡◌, refl, Bool, true, false, List, [], ◌∷◌, ◌++◌, eqb, length, get_or, take}
 use Rattle.std.proofs.Common.{sym, ap, ◌∙◌, arith, take-suc, eq-eqb, ne_eqb, eqb-true}
 use Rattle.std.proofs.Math.Seq.{take-length}
 use Rattle.std.proofs.lemmas.Bool.{eqb-false}
@@ -9,8 +9,8 @@ use Rattle.checkbyte.specs.Register.{register_of, check_of, residue, Bytes}
 use Rattle.checkbyte.specs.Residue.{residue_is}
 use Rattle.checkbyte.specs.Differ.{residue_only}
 use Rattle.frame.specs.Bits.{value, bytes}
-use Rattle.frame.specs.BitLaws.{checks_more}
-use Rattle.frame.specs.ByteLaws.{bytes_made}
+use Rattle.frame.proofs.BitLaws.{checks_more}
+use Rattle.frame.proofs.ByteLaws.{bytes_made}
 use Rattle.frame.specs.Faults.{checks_out}
 
 value_small : (b : Bool) → value b ≤ 1

@@ -1,6 +1,8 @@
 // The frame machine. It is told what the intervals after an opening show, one after the other, and says of each whether the
 // frame goes on, has one byte more, is closed, or is at fault. It sees no widths and keeps no bytes: whoever drives it does.
 // How many bytes a frame may have it is told as well.
+#![tactic(auto)]
+
 mod shut;
 
 ghost use Rattle.std.specs.Prelude.{◌≡◌, ◌<◌};

@@ -3,7 +3,7 @@
 use Rattle.std.specs.Prelude.{ℕ, ◌-◌, ◌≡◌, List, ◌++◌, length}
 use Rattle.std.proofs.Common.{append-nil, arith, length-append}
 use Rattle.frame.specs.Bits.{bytes}
-use Rattle.frame.specs.BitLaws.{bytes_none}
+use Rattle.frame.proofs.BitLaws.{bytes_none}
 use Rattle.frame.specs.Standing.{plain, checked, Standing, at_sof, in_main, at_normalization, in_response}
 use Rattle.frame.specs.Faults.{facts, main_bytes, response_bytes}
 use Rattle.frame_parts.specs.declared.Parts.{Parts}

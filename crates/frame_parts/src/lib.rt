@@ -1,4 +1,6 @@
 // The parts of a frame that closes: what the answer for it says of them, and their bytes, wherever the frame was read from.
+#![tactic(auto)]
+
 ghost use Rattle.std.specs.Prelude.{◌≡◌, ◌-◌};
 ghost use Rattle.frame_parts.specs.Laying.{laid_of};
 ghost use Rattle.frame_parts.specs.Parts.{alone, answered, parts_of};
@@ -71,7 +73,7 @@ pub fn lay(kept: [u8; MOST_BYTES], count: usize, lent: &mut [u8])
     let first = count;
     if count <= MOST_BYTES {
         if count <= lent.len() {
-            bytes::copy(&kept[..first], lent);
+            lent[..first].copy_from_slice(&kept[..first]);
         }
     }
 }

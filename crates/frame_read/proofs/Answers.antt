@@ -1,5 +1,5 @@
 -- Each answer of reading tells of the outcome that document 01 gives, from what the search and the machine have shown.
-use Prim.Native.Nat.{ℕ, ◌+◌, ◌-◌, ◌≤◌, ◌<◌}
+use Prim.Native.Nat.{ℕ, ◌+◌, ◌≤◌, ◌<◌}
 use mathlib.Core.Path.{◌≡◌, refl, sym, ap, ◌∙◌}
 use mathlib.Core.List.{List}
 use native.Mathlib.Omega.{arith}
@@ -16,8 +16,8 @@ use Rattle.frame.specs.Standing.{stands}
 use Rattle.frame.specs.Faults.{most_bytes}
 use Rattle.frame.specs.Reading.{Outcome, refused, fault_at, decides, decided, read_by, reading}
 use Rattle.frame.specs.ReadPromise.{fault_number, tells, lent_after, ReadPromise}
-use Rattle.frame.specs.ShownLaws.{shows_class}
-use Rattle.frame.specs.Outcomes.{reads_31, reads_32, reads_by}
+use Rattle.frame.proofs.ShownLaws.{shows_class}
+use Rattle.frame.proofs.Outcomes.{reads_31, reads_32, reads_by}
 use Rattle.frame_machine.specs.declared.Machine.{Machine}
 use Rattle.frame_machine.specs.declared.Event.{Event}
 use Rattle.frame_machine.specs.declared.Stepped.{Stepped}
@@ -29,8 +29,8 @@ use Rattle.frame_machine.specs.HoldingLaws.{count_of}
 use Rattle.frame_parts.specs.Laying.{laid_of, laid_enough}
 use Rattle.frame_parts.specs.Parts.{parts_of}
 use Rattle.frame_parts.specs.PartLaws.{parts_held}
-use Rattle.frame_machine.specs.StepDoes.{some_fault}
-use Rattle.frame_machine.specs.Keeping.{Closing, SaysKept, kept_by}
+use Rattle.frame_machine.proofs.StepDoes.{some_fault}
+use Rattle.frame_machine.proofs.Keeping.{Closing, SaysKept, kept_by}
 use Rattle.frame_machine.specs.Stated.{Keeping}
 use Rattle.frame_read.specs.Answering.{placed, frame_of, Meets}
 

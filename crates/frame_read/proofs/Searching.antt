@@ -13,7 +13,7 @@ use Rattle.laws.specs.Tests.{up_to}
 use Rattle.frame.specs.Line.{single, end_at, Found as FoundPlace, nowhere, at, first_in, opening}
 use Rattle.frame.specs.Faults.{most_bytes}
 use Rattle.frame.specs.Reading.{decides}
-use Rattle.frame.specs.ShownLaws.{end_width_law}
+use Rattle.frame.proofs.ShownLaws.{end_width_law}
 use Rattle.frame.specs.FirstLaws.{first_at_law, first_empty, first_here, opening_is}
 use Rattle.frame.specs.ReadStated.{IsFirst}
 use Rattle.frame_read.specs.declared.Found.{Found}

@@ -1,6 +1,8 @@
 // Reading: from a position in a recording to the frame that opens there, or to what is wrong with it. What reading
 // answers is defined, in document 01's words, in `frame`. Here the frame machine is driven over the recording,
 // and the bytes that it tells of are kept until the frame is whole.
+#![tactic(auto)]
+
 ghost use Rattle.std.specs.Prelude.{◌≡◌, ◌≤◌, ◌<◌, length};
 ghost use Rattle.frame.specs.Faults.{most_bytes};
 ghost use Rattle.frame.specs.Line.{single, at, opening as opening_of};

@@ -15,7 +15,7 @@ use Rattle.frame.specs.declared.Response.{Response}
 use Rattle.frame.specs.declared.Response.TheVariants.{Plain, Checked}
 use Rattle.frame.specs.Bits.{bits_of_byte}
 use Rattle.frame.specs.Writing.{bit_widths, byte_widths, response_widths, frame_words}
-use Rattle.frame.specs.WidthLaws.{byte_widths_one, eight_widths, frame_words_are, byte_widths_length, byte_widths_append, byte_widths_more, with_check_length, response_words, response_widths_length, frame_words_length}
+use Rattle.frame.proofs.WidthLaws.{byte_widths_one, eight_widths, frame_words_are, byte_widths_length, byte_widths_append, byte_widths_more, with_check_length, response_words, response_widths_length, frame_words_length}
 
 -- The words of a byte are eight.
 pub eight : (c : Clock) (b : ℕ) (ws : List ℕ) → ws ≡ bit_widths c false (bits_of_byte b) → length ws ≡ 8

@@ -12,7 +12,7 @@ use Rattle.frame.specs.declared.Response.{Response}
 use Rattle.frame.specs.declared.Writing.{Writing}
 use Rattle.frame.specs.declared.Writing.TheVariants.{Words, BadClock, BadMessage, FewLentWords}
 use Rattle.frame.specs.Writing.{Sheet, words, turned_away, writing, frame_words, bad_message, most_words}
-use Rattle.frame.specs.WriteExactlyWhen.{writes_36, writes_37, writes_32, writes_words}
+use Rattle.frame.proofs.WriteExactlyWhen.{writes_36, writes_37, writes_32, writes_words}
 use Rattle.frame.specs.WritePromise.{counted, counts, words_after, WritePromise}
 
 module _ (c : Clock) (main : List ℕ) (kind : Response) (rs entry : List ℕ) where

@@ -8,12 +8,12 @@ use Rattle.std.proofs.lemmas.Bool.{lt-leb}
 use Rattle.frame.specs.Signs.{is_eod}
 use Rattle.frame.specs.Line.{Line, Found, nowhere, at, first_in, opening, bits_in}
 use Rattle.frame.specs.Standing.{Standing, at_sof, response_by, stands, stands_by}
-use Rattle.frame.specs.StandingLaws.{stands_sof, stands_past}
+use Rattle.frame.proofs.StandingLaws.{stands_sof, stands_past}
 use Rattle.frame.specs.Faults.{most_bytes}
 use Rattle.frame.specs.Reading.{Outcome, quiet, unfinished, read_by, read_on}
 use Rattle.frame.specs.ReadPromise.{tells}
 use Rattle.frame.specs.ReadStated.{goes_on}
-use Rattle.frame.specs.Outcomes.{reads_by}
+use Rattle.frame.proofs.Outcomes.{reads_by}
 use Rattle.frame_machine.specs.declared.Machine.{Machine}
 use Rattle.frame_machine.specs.Holding.{phase_of, holding}
 use Rattle.live_held.specs.declared.Inside.{Inside}

@@ -8,7 +8,8 @@ use Rattle.frame.specs.Faults.{most_bytes}
 use Rattle.frame.specs.Reading.{Outcome, decides}
 use Rattle.frame.specs.ReadPromise.{tells, lent_after}
 use Rattle.frame.specs.ReadStated.{goes_on}
-use Rattle.frame.specs.ReadingOn.{next_of, on_line, Reaches}
+use Rattle.frame.specs.ReadingOn.{next_of, Reaches}
+use Rattle.frame.proofs.RecordingOn.{on_line}
 use Rattle.frame_machine.specs.declared.Machine.{Machine}
 use Rattle.frame_machine.specs.Stated.{Keeping}
 use Rattle.live_held.specs.declared.Places.{Places}

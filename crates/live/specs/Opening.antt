@@ -9,7 +9,7 @@ use Rattle.frame.specs.Faults.{most_bytes}
 use Rattle.frame.specs.Reading.{Outcome, decides}
 use Rattle.frame.specs.FirstLaws.{first_next, first_empty, opening_is}
 use Rattle.frame_machine.specs.Steps.{fresh}
-use Rattle.frame_machine.specs.Keeping.{keeping_first}
+use Rattle.frame_machine.proofs.Keeping.{keeping_first}
 use Rattle.frame_machine.specs.Stated.{Keeping}
 use Rattle.live_held.specs.declared.Places.{Places}
 use Rattle.live_held.specs.declared.Live.{Live}

@@ -4,8 +4,8 @@
 use Rattle.std.specs.Prelude.{◌≡◌, refl, cond, List, [], ◌∷◌, eqb}
 use Rattle.std.proofs.Common.{sym, ap, ◌∙◌, inl, inr, arith}
 use Rattle.frame.specs.ReadPromise.{Told}
-use Rattle.frame.specs.ReadSettled.{fault_of, fault_back}
-use Rattle.frame.specs.FaultLaws.{other_number}
+use Rattle.frame.proofs.ReadSettled.{fault_of, fault_back}
+use Rattle.frame.proofs.FaultLaws.{other_number}
 use Rattle.live_answer.specs.declared.Heard.{Heard}
 use Rattle.live_answer.specs.declared.Heard.TheVariants.{Nothing, Frame, Faulty, PastPlaces, FewLentBytes}
 use Rattle.live.specs.declared.Asked.{Asked}

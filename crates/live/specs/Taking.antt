@@ -12,9 +12,10 @@ use Rattle.frame.specs.Reading.{Outcome, good, closed, faulty, decides, decided_
 use Rattle.frame.specs.ReadPromise.{fault_number}
 use Rattle.frame.specs.FirstLaws.{or_at, first_next, first_empty, opening_is}
 use Rattle.frame.specs.ReadStated.{Opens, goes_on}
-use Rattle.frame.specs.Outcomes.{opening_opens, opened_reading}
-use Rattle.frame.specs.ReadingOn.{next_of, progress, none_yet, one_more}
-use Rattle.frame.specs.Longer.{first_same, end_same, stands_same, decides_same, reading_stays}
+use Rattle.frame.proofs.Outcomes.{opening_opens, opened_reading}
+use Rattle.frame.specs.ReadingOn.{next_of, none_yet, one_more}
+use Rattle.frame.proofs.RecordingOn.{progress}
+use Rattle.frame.proofs.Longer.{first_same, end_same, stands_same, decides_same, reading_stays}
 use Rattle.frame_machine.specs.declared.Machine.{Machine}
 use Rattle.frame_machine.specs.declared.Event.{Event}
 use Rattle.frame_machine.specs.declared.Event.TheVariants.{Going, Byte, Closed, Faulty}
@@ -23,9 +24,9 @@ use Rattle.frame_machine.specs.Holding.{so_far, holding}
 use Rattle.frame_machine.specs.HoldingLaws.{count_of}
 use Rattle.frame_parts.specs.PartLaws.{parts_held}
 use Rattle.frame_machine.specs.Meaning.{meaning_of}
-use Rattle.frame_machine.specs.StepDoes.{some_fault}
-use Rattle.frame_machine.specs.Following.{held_few, held_began}
-use Rattle.frame_machine.specs.Keeping.{SaysKept, kept_by}
+use Rattle.frame_machine.proofs.StepDoes.{some_fault}
+use Rattle.frame_machine.proofs.Following.{held_few, held_began}
+use Rattle.frame_machine.proofs.Keeping.{SaysKept, kept_by}
 use Rattle.frame_machine.specs.Stated.{Kept, Keeping}
 use Rattle.live_held.specs.declared.Live.{Live}
 use Rattle.live_held.specs.Reader.{held_by, begins_anew, goes_on as goes_on_with}

@@ -1,5 +1,7 @@
 // The live reader by value: one interval more, and what is asked of it between two intervals. What it answers is what
 // reading the whole recording answers; specs/Whole.antt says so of every reader that was started and heard intervals.
+#![tactic(auto)]
+
 ghost use Rattle.std.specs.Prelude.{◌≡◌, length};
 ghost use Rattle.live.specs.Feeding.{started, refusal_of, refused_by, fed_of, lent_of, asked_of};
 

@@ -1,5 +1,7 @@
 // What an interval answers that is not refused, by value, and the reader after it: it decides nothing, it closes a frame, or it
 // is at fault.
+#![tactic(auto)]
+
 ghost use Rattle.std.specs.Prelude.{◌≡◌};
 ghost use Rattle.live_answer.specs.Answered.{still_open, closed_frame, fault_heard, is_refusal};
 

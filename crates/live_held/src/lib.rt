@@ -1,4 +1,6 @@
 // A live reader and what it holds: its places, and the frame machine in it; and where it stands after an interval.
+#![tactic(auto)]
+
 mod held;
 
 ghost use Rattle.std.specs.Prelude.{◌≡◌};

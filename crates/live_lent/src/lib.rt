@@ -1,5 +1,7 @@
 // The calls on a live reader that is lent, as document 02 has them: "lent to the call and changed in place". Each takes the
 // reader out, hands it to the live reader by value, and puts back what comes of it.
+#![tactic(auto)]
+
 ghost use Rattle.std.specs.Prelude.{◌≡◌, length};
 ghost use Rattle.live.specs.Feeding.{fed_of, lent_of, asked_of};
 

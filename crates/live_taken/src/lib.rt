@@ -1,4 +1,6 @@
 // One interval that is not refused: it stands before a frame or in one.
+#![tactic(auto)]
+
 ghost use Rattle.std.specs.Prelude.{◌≡◌};
 ghost use Rattle.frame.specs.Line.{active_at};
 ghost use Rattle.live_taken.specs.Taken.{laid_by, waiting, fed_by, step_at, ends_at};

@@ -1,10 +1,9 @@
 -- What the tests of `intervals` say of the rules by which a call is turned away. Assumes nothing.
 use Prim.Native.Nat.{ℕ, ◌+◌, ◌≤◌, ◌<◌}
 use mathlib.Core.Path.{◌≡◌, refl, sym, ◌∙◌}
-use mathlib.Core.Bool.{Bool, true, false, not}
+use mathlib.Core.Bool.{Bool, true, false}
 use mathlib.Core.List.{List, [], ◌∷◌}
 use native.Mathlib.Omega.{arith}
-use borrow.Author.Tests.{not-true, not-false}
 use lib.Ieee.{Float}
 use lib.ListN.{length}
 use Rattle.laws.specs.Tests.{never}
@@ -25,15 +24,15 @@ pub not_too_few : {a b : ℕ} → a < b → ¬ (b < a + 1)
 not_too_few h k = omega arith
 
 -- what a test `!good_gate(..)` says: that the gate is not good ..
-pub gate_bad : {r a : Bool} → r ≡ a → not r ≡ true → a ≡ false
-gate_bad {r} e h = sym e ∙ not-true r h
+pub gate_bad : {r a : Bool} → r ≡ a → r ≡ false → a ≡ false
+gate_bad e h = sym e ∙ h
 
 -- .. or that it is
-pub gate_good : {r a : Bool} → r ≡ a → not r ≡ false → ¬ (a ≡ false)
-gate_good {r} e h k = never (not-false r h) (e ∙ k)
+pub gate_good : {r a : Bool} → r ≡ a → r ≡ true → ¬ (a ≡ false)
+gate_good e h k = never h (e ∙ k)
 
 -- Where every test lets the call through, no rule holds.
-pub none_holds : (g : Gate) (s : List Float) (lent : List ℕ) {good found : Bool} → length s ≤ most_samples → good ≡ good_gate g → not good ≡ false
+pub none_holds : (g : Gate) (s : List Float) (lent : List ℕ) {good found : Bool} → length s ≤ most_samples → good ≡ good_gate g → good ≡ true
     → length s < length lent → found ≡ sample_unusable g s → found ≡ false → NoneHolds (rules g s lent)
 none_holds g s lent few e good words f none = (not_above few, (gate_good e good, (not_too_few words, (λ k. never k (sym f ∙ none), tt))))
 

@@ -1,14 +1,14 @@
 -- Laws.
 -- A function that hands all that is lent to it on to one callee with the same parameters: what the callee says of the last
 -- values is what the function says of them.
---     calls-handed     the call: all that is lent is given for good, and the last values are known
---     hands-back       the function's end: the tokens, the last values and a plain answer
---     walks-on         the function meets its contract, from a walk with its parameters' machine values written out
+--     calls_handed     the call: all that is lent is given for good, and the last values are known
+--     hands_back       the function's end: the tokens, the last values and a plain answer
+--     walks_on         the function meets its contract, from a walk with its parameters' machine values written out
 -- Assumes `Logic`.
 use Rattle.std.specs.Prelude.{refl, List, [], ◌∷◌}
 use Rattle.std.proofs.Common.{ap, subst}
 use seplogic.Ra.Ura.{Ura}
-use mir.Syntax.{Name, Place, Opd as Operand, Body, seq, call}
+use mir.Syntax.{Callee, Place, Opd as Operand, Body, seq, call}
 use mir.Val.{Val}
 use base.Logic.{SProp, ent, sep, wand, emp, via, comm∗, mono_l, wand_i, apply∗, id⊢}
 use prog.Wp.{Env, Calls, Loops}
@@ -39,7 +39,7 @@ Owed {𝓤 = 𝓤} 𝓛 T c κs qs a vss g = sep 𝓤 (on_entry 𝓛 T.signature
 module _ {M : Type 1} {𝓤 : Ura M} {𝓛 : Logic 𝓤} {K : Type 0} {Γ : List (Item 𝓤)} {C : Calls 𝓤 𝓛.H} {Λ : Loops 𝓤 𝓛.H} {E : Env 𝓤 𝓛.H} {p : Post 𝓤 𝓛.H} where
   open 𝓛 use {H}
 
-  pub calls_handed : K → FmC 𝓤 H 𝓛.laws C → {f : Name} {xs : List Operand} {d : Place} {rest : Body} (T : Ended) (c : Clauses 𝓤 T) → Triple 𝓤 (C f) (triple_of 𝓛 T.signature (closing 𝓛 T c))
+  pub calls_handed : K → FmC 𝓤 H 𝓛.laws C → {f : Callee} {xs : List Operand} {d : Place} {rest : Body} (T : Ended) (c : Clauses 𝓤 T) → Triple 𝓤 (C f) (triple_of 𝓛 T.signature (closing 𝓛 T c))
       → (κs : Lfts T.signature.lifetimes) (qs : Shares T.signature.lifetimes) (bounds : AllOutlive T.signature.lifetimes T.signature.outlives κs) (a : Args T.signature κs) (vss : Vals T.signature κs) (g : (c κs a).ghost)
       → ent 𝓤 (emp 𝓤) ((c κs a).requires g) → (val : (Ret T κs).Denot → Val) → Tells (Ret T κs) (Is (Ret T κs)) (λ y. val y ∷ [])
       → (P : (Ret T κs).Denot → Lasts T κs a → Type 0) → ((r : (Ret T κs).Denot) (ws : Lasts T κs a) → ent 𝓤 ((c κs a).ensures g r (at_exit T κs a ws)) (fact 𝓤 (P r ws)))

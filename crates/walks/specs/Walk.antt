@@ -2,19 +2,19 @@
 -- What proofs that walk a function by hand share.
 --     Locals E os      the cells of a function's locals, local 0 first: each holds a value, or is empty
 --     Opened E k os    the same while the cell of local k is held otherwise, as the cells of an array's elements
---     allocs-all       the locals are allocated, and stand in the order of the source
+--     allocs_all       the locals are allocated, and stand in the order of the source
 --     frees_all        they are freed, whatever they hold
---     calls-known      a call of a function of plain data, whose contract says something of what it answers
---     calls-plain      the same where the contract says which value it answers
---     calls-told       a call of a function that is lent something, and gives something back for it
+--     calls_known      a call of a function of plain data, whose contract says something of what it answers
+--     calls_plain      the same where the contract says which value it answers
+--     calls_told       a call of a function that is lent something, and gives something back for it
 --     tests            the test at the head of a `while`: the turn goes on, or leaves the loop
 -- Assumes `Logic`.
 use Rattle.std.specs.Prelude.{◌≡◌, refl, Bool, not, ℕ, zero, suc, List, [], ◌∷◌, T}
 use Rattle.std.proofs.Common.{sym, ap, subst}
 use Rattle.std.proofs.Math.Option.{Option, none, some as full}
 use seplogic.Ra.Ura.{Ura}
-use seplogic.Ra.TreeShare.{full_share}
-use mir.Syntax.{Ty, Name, Place, Opd as Operand, Body, Local, local, seq, cond, skip, exit, call}
+use base.Fraction.{full_share}
+use mir.Syntax.{Ty, Callee, Place, Opd as Operand, Body, Local, local, seq, cond, skip, exit, call}
 use mir.Val.{Val, vbool}
 use base.Logic.{SProp, ent, sep, emp, via, mono_r, id⊢}
 use base.Fml.{ftrue, fat, froom, fdies}
@@ -95,7 +95,7 @@ module _ {M : Type 1} {𝓤 : Ura M} {𝓛 : Logic 𝓤} {K : Type 0} where
 
 -- Calls. The callee's contract says P of what it answers: Ens is its `ensures`, and told reads it.
 module _ {M : Type 1} {𝓤 : Ura M} {𝓛 : Logic 𝓤} {K : Type 0} {Γ : List (Item 𝓤)} {C : Calls 𝓤 𝓛.H} {Λ : Loops 𝓤 𝓛.H} {E : Env 𝓤 𝓛.H} {q : Post 𝓤 𝓛.H}
-    (t : K) (fm : FmC 𝓤 𝓛.H 𝓛.laws C) {f : Name} {xs : List Operand} {d : Place} {rest : Body} (c : Contract 𝓤) (met : Triple 𝓤 (C f) c) (x : c.Ghost) where
+    (t : K) (fm : FmC 𝓤 𝓛.H 𝓛.laws C) {f : Callee} {xs : List Operand} {d : Place} {rest : Body} (c : Contract 𝓤) (met : Triple 𝓤 (C f) c) (x : c.Ghost) where
   -- a function that is lent something: i is what it is given, and j what it gives back
   pub calls_told : {i : Item 𝓤} (j : Item 𝓤) → ent 𝓤 (mean 𝓛 i) (c.pre x) → (R : RattleType) (val : R.Denot → Val) → Tells R (Is R) (λ y. val y ∷ [])
       → (P : R.Denot → Type 0) (Ens : R.Denot → SProp 𝓤) → ((v : Val) → ent 𝓤 (c.post x v) (mean 𝓛 (later (some (λ (r : R.Denot). (j ⊛ ‵ (R.own_val r (v ∷ []))) ⊛ raw (Ens r))))))

@@ -1,17 +1,21 @@
 // Prints, as the proved code answers them, the check bytes, width classes, clocks and sent widths of document 01's worked
 // cases, and published check vectors. An independent second program prints the same from the paper alone, and the two are
 // compared line by line. The worked volts and rounds are proved in specs/ and not printed.
+#![tactic(auto)]
+
 mod checks;
 mod print;
 mod symbols;
 
+use std::io;
+
 // The order of the lines is the second program's too.
-fn main() {
-    checks::vectors();
-    checks::single_bytes();
-    symbols::windows(false);
-    symbols::windows(true);
-    symbols::clocks();
-    symbols::widths_sent(false);
-    symbols::widths_sent(true);
+fn main(rt: HostRuntime) -> io::Result<()> {
+    checks::vectors(&rt)?;
+    checks::single_bytes(&rt)?;
+    symbols::windows(&rt, false)?;
+    symbols::windows(&rt, true)?;
+    symbols::clocks(&rt)?;
+    symbols::widths_sent(&rt, false)?;
+    symbols::widths_sent(&rt, true)
 }

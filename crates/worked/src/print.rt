@@ -1,14 +1,14 @@
-// Words, numbers and bytes on standard output.
-use libc::STDOUT_FILENO;
+// Words, numbers and bytes on standard output. What cannot be written ends the program, with what the system said.
+use std::io;
 
 // A text as it stands: no blank and no newline is added.
-pub(crate) fn word(text: &[u8]) {
-    io::write_all(STDOUT_FILENO, text);
+pub(crate) fn word(rt: &impl Print, text: &[u8]) -> io::Result<()> {
+    rt.write_all(text)
 }
 
 // A number in decimal.
-pub(crate) fn number(n: u32) {
-    io::print_decimal(STDOUT_FILENO, n as u64);
+pub(crate) fn number(rt: &impl Print, n: u32) -> io::Result<()> {
+    print!(rt; "{n}")
 }
 
 // One digit of upper-case hex: 0 to 9, then A to F.
@@ -18,23 +18,24 @@ fn digit(half: u8) -> u8 {
 }
 
 // A byte as two digits of upper-case hex.
-pub(crate) fn byte(b: u8) {
+pub(crate) fn byte(rt: &impl Print, b: u8) -> io::Result<()> {
     let text = [digit(b / 16), digit(b)];
-    word(&text);
+    word(rt, &text)
 }
 
 // Bytes in hex, with nothing between them.
-pub(crate) fn bytes(bs: &[u8]) {
+pub(crate) fn bytes(rt: &impl Print, bs: &[u8]) -> io::Result<()> {
     for i in 0..bs.len() {
-        byte(bs[i]);
+        byte(rt, bs[i])?;
     }
+    Ok(())
 }
 
 // The name of a level of the line.
-pub(crate) fn level(active: bool) {
+pub(crate) fn level(rt: &impl Print, active: bool) -> io::Result<()> {
     if active {
-        word(b"active");
+        word(rt, b"active")
     } else {
-        word(b"passive");
+        word(rt, b"passive")
     }
 }

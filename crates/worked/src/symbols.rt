@@ -3,6 +3,7 @@ ghost use Rattle.std.specs.Prelude.{◌≡◌};
 ghost use Rattle.symbol.specs.Sending.{only_where, sent_of};
 
 use crate::print;
+use std::io;
 use symbol::{Clock, END_SENT, Sent, Symbol};
 use units::Micros;
 
@@ -28,46 +29,46 @@ fn mark(s: Symbol) -> u8 {
 }
 
 // A symbol's name, as document 01 has it.
-fn name(s: Symbol) {
+fn name(rt: &impl Print, s: Symbol) -> io::Result<()> {
     match s {
-        Symbol::Noise => print::word(b"noise"),
-        Symbol::Bit0 => print::word(b"bit 0"),
-        Symbol::Bit1 => print::word(b"bit 1"),
-        Symbol::Eod => print::word(b"EOD"),
-        Symbol::Sof => print::word(b"SOF"),
-        Symbol::Eof => print::word(b"EOF"),
-        Symbol::Ifs => print::word(b"IFS"),
-        Symbol::Break => print::word(b"break"),
-        Symbol::Stuck => print::word(b"stuck"),
+        Symbol::Noise => print::word(rt, b"noise"),
+        Symbol::Bit0 => print::word(rt, b"bit 0"),
+        Symbol::Bit1 => print::word(rt, b"bit 1"),
+        Symbol::Eod => print::word(rt, b"EOD"),
+        Symbol::Sof => print::word(rt, b"SOF"),
+        Symbol::Eof => print::word(rt, b"EOF"),
+        Symbol::Ifs => print::word(rt, b"IFS"),
+        Symbol::Break => print::word(rt, b"break"),
+        Symbol::Stuck => print::word(rt, b"stuck"),
     }
 }
 
 // One line: from this width on the symbol is another.
-fn begins(active: bool, width: u32) {
-    print::level(active);
-    print::word(b" from ");
-    print::number(width);
-    print::word(b": ");
-    name(symbol::class(active, Micros(width)));
-    print::word(b"\n");
+fn begins(rt: &impl Print, active: bool, width: u32) -> io::Result<()> {
+    print::level(rt, active)?;
+    print::word(rt, b" from ")?;
+    print::number(rt, width)?;
+    print::word(rt, b": ")?;
+    name(rt, symbol::class(active, Micros(width)))?;
+    print::word(rt, b"\n")
 }
 
 // Every width up to the last tried, with a line for each at which the symbol changes; then the widest that there is.
-pub(crate) fn windows(active: bool) {
-    begins(active, 0);
+pub(crate) fn windows(rt: &impl Print, active: bool) -> io::Result<()> {
+    begins(rt, active, 0)?;
     let mut width: u32 = 0;
     while width < LAST_TRIED {
         let before = mark(symbol::class(active, Micros(width)));
         width += 1;
         let here = mark(symbol::class(active, Micros(width)));
         if here != before {
-            begins(active, width);
+            begins(rt, active, width)?;
         }
     }
-    print::level(active);
-    print::word(b" 4294967295: ");
-    name(symbol::class(active, Micros(4294967295)));
-    print::word(b"\n");
+    print::level(rt, active)?;
+    print::word(rt, b" 4294967295: ")?;
+    name(rt, symbol::class(active, Micros(4294967295)))?;
+    print::word(rt, b"\n")
 }
 
 // A clock that is nominal but for one of its widths.
@@ -118,46 +119,47 @@ fn tried(which: u8, width: u32) -> Clock {
 }
 
 // One line: from this width on the clock is good, or bad.
-fn judged(which: u8, width: u32, good: bool) {
-    print::word(b"clock ");
+fn judged(rt: &impl Print, which: u8, width: u32, good: bool) -> io::Result<()> {
+    print::word(rt, b"clock ")?;
     if which == 0 {
-        print::word(b"short");
+        print::word(rt, b"short")?;
     } else {
         if which == 1 {
-            print::word(b"long");
+            print::word(rt, b"long")?;
         } else {
-            print::word(b"SOF");
+            print::word(rt, b"SOF")?;
         }
     }
-    print::word(b" from ");
-    print::number(width);
+    print::word(rt, b" from ")?;
+    print::number(rt, width)?;
     if good {
-        print::word(b": good\n");
+        print::word(rt, b": good\n")
     } else {
-        print::word(b": bad\n");
+        print::word(rt, b": bad\n")
     }
 }
 
 // Every width up to the last tried, with a line for each at which the clock becomes good or bad.
-fn sending_window(which: u8) {
+fn sending_window(rt: &impl Print, which: u8) -> io::Result<()> {
     let mut width: u32 = 0;
     let mut before = symbol::good_clock(tried(which, 0));
-    judged(which, 0, before);
+    judged(rt, which, 0, before)?;
     while width < LAST_CLOCK_TRIED {
         width += 1;
         let here = symbol::good_clock(tried(which, width));
         if here != before {
-            judged(which, width, here);
+            judged(rt, which, width, here)?;
         }
         before = here;
     }
+    Ok(())
 }
 
 // The sending windows, each found by one width of a clock that is otherwise nominal.
-pub(crate) fn clocks() {
-    sending_window(0);
-    sending_window(1);
-    sending_window(2);
+pub(crate) fn clocks(rt: &impl Print) -> io::Result<()> {
+    sending_window(rt, 0)?;
+    sending_window(rt, 1)?;
+    sending_window(rt, 2)
 }
 
 // What is sent for a symbol that one level alone has.
@@ -189,30 +191,30 @@ fn sent(clock: Clock, active: bool, symbol: Symbol) -> Sent
 }
 
 // One line: the width that a symbol is sent with at a level, or that it never is.
-fn width_sent(active: bool, s: Symbol) {
-    print::level(active);
-    print::word(b" ");
-    name(s);
+fn width_sent(rt: &impl Print, active: bool, s: Symbol) -> io::Result<()> {
+    print::level(rt, active)?;
+    print::word(rt, b" ")?;
+    name(rt, s)?;
     let width = sent(symbol::nominal(), active, s);
     match width {
         Sent::For(width) => {
-            print::word(b" is sent for ");
-            print::number(width.0);
-            print::word(b"\n");
+            print::word(rt, b" is sent for ")?;
+            print::number(rt, width.0)?;
+            print::word(rt, b"\n")
         }
-        Sent::Never => print::word(b" is never sent\n"),
+        Sent::Never => print::word(rt, b" is never sent\n"),
     }
 }
 
 // What the nominal clock sends for each symbol at a level.
-pub(crate) fn widths_sent(active: bool) {
-    width_sent(active, Symbol::Noise);
-    width_sent(active, Symbol::Bit0);
-    width_sent(active, Symbol::Bit1);
-    width_sent(active, Symbol::Eod);
-    width_sent(active, Symbol::Sof);
-    width_sent(active, Symbol::Eof);
-    width_sent(active, Symbol::Ifs);
-    width_sent(active, Symbol::Break);
-    width_sent(active, Symbol::Stuck);
+pub(crate) fn widths_sent(rt: &impl Print, active: bool) -> io::Result<()> {
+    width_sent(rt, active, Symbol::Noise)?;
+    width_sent(rt, active, Symbol::Bit0)?;
+    width_sent(rt, active, Symbol::Bit1)?;
+    width_sent(rt, active, Symbol::Eod)?;
+    width_sent(rt, active, Symbol::Sof)?;
+    width_sent(rt, active, Symbol::Eof)?;
+    width_sent(rt, active, Symbol::Ifs)?;
+    width_sent(rt, active, Symbol::Break)?;
+    width_sent(rt, active, Symbol::Stuck)
 }

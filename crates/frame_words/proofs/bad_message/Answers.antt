@@ -1,6 +1,6 @@
 -- `frame_words::bad_message` meets its contract: a law for each way out.
 use mathlib.Core.Path.{sym, ◌∙◌}
-use Rattle.frame.specs.WidthLaws.{bad_empty, bad_long, bad_without, bad_plain, bad_checked}
+use Rattle.frame.proofs.WidthLaws.{bad_empty, bad_long, bad_without, bad_plain, bad_checked}
 use borrow.Author.Rules.{rules}
 use Rattle.frame_words.proofs.bad_message.Goals as goal
 

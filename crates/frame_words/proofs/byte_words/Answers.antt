@@ -1,5 +1,5 @@
 -- `frame_words::byte_words` meets its contract: the width of each bit, the high one first.
-use Rattle.frame.specs.WidthLaws.{eight_widths}
+use Rattle.frame.proofs.WidthLaws.{eight_widths}
 use Rattle.frame_words.proofs.byte_words.Goals as goal
 
 pub returns : goal.returns

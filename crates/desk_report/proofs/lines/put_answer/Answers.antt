@@ -1,0 +1,19 @@
+-- `desk_report::put_answer` meets its contract: what is read is what reading is defined to answer, and its line is printed.
+use Rattle.desk_report.proofs.Answering.{read_prints, answer_space, answer_stepped}
+use mathlib.Core.Path.{refl}
+use Rattle.desk_report.proofs.lines.put_answer.Goals as goal
+
+pub put_line-end-requires : goal.put_line-end-requires
+put_line-end-requires c =
+    let a = c.args in
+    let h = c.requires in
+    let q = c.read-reading.ensures in
+    record {
+      holds = (read_prints a.customer.now a.vehicle.now a.widths.now a.from h.from_in_bounds refl q).holds;
+      space = answer_space a.customer.now a.vehicle.now a.widths.now a.from h.from_in_bounds refl q h.space;
+    }
+
+pub returns : goal.returns
+returns c =
+    let a = c.args in
+    answer_stepped a.customer.now a.vehicle.now a.widths.now a.from c.requires.from_in_bounds refl c.read-reading.ensures c.put_line-end.ensures c.after-next.ensures
