@@ -7,7 +7,7 @@ import re
 
 from antt import Source, Spec, names
 
-HOUSE = re.compile(r"^Rattle\.(\w+)\.specs\.(.+)$")
+HOUSE = re.compile(r"^Rattle\.(\w+)\.(specs|proofs)\.(.+)$")
 
 
 class Tree:
@@ -24,11 +24,13 @@ class Tree:
             self.files[name] = make(name, path.read_text(encoding="utf-8")) if path.is_file() else None
         return self.files[name]
 
-    def specs(self, crate):
-        """The files of a room's specs/, in the order of its Lib.antt."""
-        lib = self.file(f"{crate}/specs/Lib.antt")
+    def specs(self, crate, folder="specs"):
+        """The files of a room's specs/, in the order of its Lib.antt; or those of its proofs/ that say what they hold, and so are
+        handed up as well: the laws that an edit of a definition breaks, which could not be tried if they stood in specs/."""
+        lib = self.file(f"{crate}/{folder}/Lib.antt")
         mods = re.findall(r"^pub mod (\S+)", "\n".join(lib.lines), re.M) if lib else []
-        return [f for f in (self.file(f"{crate}/specs/{m.replace('.', '/')}.antt") for m in mods) if f]
+        found = [f for f in (self.file(f"{crate}/{folder}/{m.replace('.', '/')}.antt") for m in mods) if f]
+        return found if folder == "specs" else [f for f in found if f.kind]
 
     def sources(self, crate):
         return [self.file(str(p.relative_to(self.root / "crates"))) for p in sorted((self.root / "crates" / crate / "src").rglob("*.rt"))]
@@ -54,14 +56,16 @@ class Tree:
         house = HOUSE.match(path)
         if not house or house.group(1) not in self.crates:
             return None
-        crate, steps = house.group(1), house.group(2).split(".")
-        if steps[0] == "contracts":  # made by the kit of a type or a contract
+        crate, folder, steps = house.group(1), house.group(2), house.group(3).split(".")
+        if folder == "specs" and steps[0] == "contracts":  # made by the kit of a type or a contract
             return None
-        if steps[0] == "declared":
+        if folder == "specs" and steps[0] == "declared":
             steps = [s for s in steps[1:] if s != "TheVariants"]
             it = self.type(crate, steps[:-1] or ["lib"], steps[-1])
         else:
-            spec = self.file(f"{crate}/specs/{'/'.join(steps)}.antt")
+            spec = self.file(f"{crate}/{folder}/{'/'.join(steps)}.antt")
+            if spec is None and folder == "proofs":  # made by the kit, of a call or a type
+                return None
             it = spec.named.get(name) if spec else None
         if it is None:
             self.wrong.add(f"there is no {name} in {path}")
@@ -123,7 +127,7 @@ class Tree:
             if text[stop : m.start()].strip() not in ("", ",") or "/" in m.group(1):
                 home = None
             stop = m.end()
-            if re.match(r"^\w+/specs/\S+\.antt$", m.group(1)):
+            if re.match(r"^\w+/(?:specs|proofs)/\S+\.antt$", m.group(1)):
                 home = self.file(m.group(1))
             elif home is not None:
                 out.append(home.named.get(m.group(1)) or home.fields.get(m.group(1)))

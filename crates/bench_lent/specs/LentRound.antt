@@ -17,7 +17,7 @@ use Rattle.bench.specs.Round.{Round, round_of, verdict_of, verdicts_of, after_fa
 use Rattle.bench.specs.Calls.{round, all_sound, number_of, taken, done, after, written, lent_after}
 use Rattle.bench.specs.Promise.{RoundSaid, RoundPromise, said, played, turned_away, round_says}
 use Rattle.bench.specs.Taken.{round_taken}
-use Rattle.bench.specs.RowLaws.{fares_against, row_fares}
+use Rattle.bench.proofs.RowLaws.{fares_against, row_fares}
 use Rattle.bench.specs.RoundStated.{winner_of}
 use Rattle.bench_row.specs.declared.HeldRow.{HeldRow}
 use Rattle.bench_round.specs.declared.Played.{Played}

@@ -19,7 +19,7 @@ use Rattle.bench.specs.Stations.{most_stations, blank}
 use Rattle.bench.specs.Course.{longest, Course, most_bits}
 use Rattle.bench.specs.Round.{entry_of, sofs_asked, sum_of, round_of, round_among, verdict_of, verdicts_of, after_fare, after_fares}
 use Rattle.bench.specs.Calls.{all_sound, written}
-use Rattle.bench.specs.RowLaws.{fares_against, row_fares, row_comes}
+use Rattle.bench.proofs.RowLaws.{fares_against, row_fares, row_comes}
 use Rattle.bench.specs.RoundStated.{winner_of}
 use Rattle.bench.specs.Promise.{RoundSaid, played}
 use Rattle.loops.specs.Scan.{from, from_same, filled, fill_ahead, fill_more, fill_all, fold_start, fold_more, fold_all, get_d_any}

@@ -12,12 +12,29 @@ returns-then-bad_size c = rw (sym c.bad_size.ensures ∙ c.if-bad_size.true)
 
 pub returns-then-not-asked : goal.returns-then-not-asked
 unfolding row_number
-returns-then-not-asked c = rw (sym c.bad_size.ensures ∙ c.if-bad_size.false, ap (λ (v : Survey). not v.sound) (sym c.survey_all-asked.ensures) ∙ c.if-not-asked.true)
+returns-then-not-asked c =
+    rw (
+      sym c.bad_size.ensures ∙ c.if-bad_size.false,
+      ap (λ (v : Survey). not v.sound) (sym c.survey_all-asked.ensures)
+          ∙ c.if-not-asked.true,
+    )
 
 pub returns-then-held-place : goal.returns-then-held-place
 unfolding row_number
-returns-then-held-place c = let b = c in rw (sym b.bad_size.ensures ∙ b.if-bad_size.false, ap (λ (v : Survey). not v.sound) (sym b.survey_all-asked.ensures) ∙ c.if-not-asked.false, le-leb _ _ c.if-held-place.true)
+returns-then-held-place c =
+    rw (
+      sym c.bad_size.ensures ∙ c.if-bad_size.false,
+      ap (λ (v : Survey). not v.sound) (sym c.survey_all-asked.ensures)
+          ∙ c.if-not-asked.false,
+      le-leb _ _ c.if-held-place.true,
+    )
 
 pub returns : goal.returns
 unfolding row_number
-returns c = let b = c in rw (sym b.bad_size.ensures ∙ b.if-bad_size.false, ap (λ (v : Survey). not v.sound) (sym b.survey_all-asked.ensures) ∙ c.if-not-asked.false, lt-leb _ _ c.if-held-place.false)
+returns c =
+    rw (
+      sym c.bad_size.ensures ∙ c.if-bad_size.false,
+      ap (λ (v : Survey). not v.sound) (sym c.survey_all-asked.ensures)
+          ∙ c.if-not-asked.false,
+      lt-leb _ _ c.if-held-place.false,
+    )

@@ -4,7 +4,9 @@ use Rattle.bench_calls.specs.ChangeLaws.{withdraw_nothing, withdraw_done}
 use Rattle.bench_calls.proofs.withdraw_at.Goals as goal
 
 pub returns-then-station-eq0 : goal.returns-then-station-eq0
-returns-then-station-eq0 c = let a = c in rw c.away.ensures (withdraw_nothing a.args.held a.args.place _ (omega arith) c.if-station-eq0.true)
+returns-then-station-eq0 c =
+    rw c.away.ensures (withdraw_nothing c.args.held c.args.place _ (omega arith) c.if-station-eq0.true)
 
 pub returns : goal.returns
-returns c = let a = c in withdraw_done a.args.held a.args.place _ (omega arith) c.if-station-eq0.false _ c.empty-next.ensures _ c.taken.ensures
+returns c =
+    withdraw_done c.args.held c.args.place _ (omega arith) c.if-station-eq0.false _ c.empty-next.ensures _ c.taken.ensures

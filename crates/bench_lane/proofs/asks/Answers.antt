@@ -19,4 +19,10 @@ returns-then-count-j c = rw (ne_eqb _ _ c.if-count-eq0.false, le-ltb _ _ c.if-go
 pub returns : goal.returns
 unfolding ask_of
 returns c =
-    rw (ne_eqb _ _ c.if-count-eq0.false, le-ltb _ _ c.if-gone.false, lt-leb _ _ c.if-count-j.false, c.width_for.ensures, c.bit_of-one.ensures)
+    rw (
+      ne_eqb _ _ c.if-count-eq0.false,
+      le-ltb _ _ c.if-gone.false,
+      lt-leb _ _ c.if-count-j.false,
+      c.width_for.ensures,
+      c.bit_of-one.ensures,
+    )

@@ -4,24 +4,21 @@ use borrow.Author.Rules.{rules}
 use Rattle.bench_line.proofs.contend_on.Goals as goal
 
 pub send_bits-bits-requires : goal.send_bits-bits-requires
-send_bits-bits-requires c =
-    let l = c in
-    let a = l in (
-      ready a.args.at (search rules) _ _ _ _ l.counts-counts.ensures l.frames-frames.ensures l.widths-shorts.ensures l.widths-longs.ensures,
-      search rules,
-      a.requires,
-      silent a.args.at (search rules) _ _ _ _ l.counts-counts.ensures l.frames-frames.ensures l.widths-shorts.ensures l.widths-longs.ensures _ l.places-places.ensures,
-    )
+send_bits-bits-requires c = (
+  ready c.args.at (search rules) _ _ _ _ c.counts-counts.ensures c.frames-frames.ensures c.widths-shorts.ensures
+      c.widths-longs.ensures,
+  search rules,
+  c.requires,
+  silent c.args.at (search rules) _ _ _ _ c.counts-counts.ensures c.frames-frames.ensures c.widths-shorts.ensures
+      c.widths-longs.ensures _ c.places-places.ensures,
+)
 
 pub verdicts-verdicts-requires : goal.verdicts-verdicts-requires
 verdicts-verdicts-requires c =
-    let l = c in
-    let a = l in
-    silent a.args.at (search rules) _ _ _ _ l.counts-counts.ensures l.frames-frames.ensures l.widths-shorts.ensures l.widths-longs.ensures _ l.places-places.ensures
+    silent c.args.at (search rules) _ _ _ _ c.counts-counts.ensures c.frames-frames.ensures c.widths-shorts.ensures
+    c.widths-longs.ensures _ c.places-places.ensures
 
 pub returns : goal.returns
 returns c =
-    let s = c in
-    let l = s in
-    let a = l in
-    contended a.args.at (search rules) _ _ _ _ l.counts-counts.ensures l.frames-frames.ensures l.widths-shorts.ensures l.widths-longs.ensures _ _ _ _ s.send_bits-bits.ensures _ c.verdicts-verdicts.ensures
+    contended c.args.at (search rules) _ _ _ _ c.counts-counts.ensures c.frames-frames.ensures c.widths-shorts.ensures
+    c.widths-longs.ensures _ _ _ _ c.send_bits-bits.ensures _ c.verdicts-verdicts.ensures

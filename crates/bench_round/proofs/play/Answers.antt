@@ -6,46 +6,55 @@ use borrow.Author.Rules.{rules}
 use Rattle.bench_round.proofs.play.Goals as goal
 
 pub bounds-words-1 : goal.bounds-words-1
-bounds-words-1 c = let a = c in simp length-set (omega (arith, a.requires.2))
+bounds-words-1 c = simp length-set (omega (arith, c.requires.2))
 
 pub overflow_add-closing : goal.overflow_add-closing
 overflow_add-closing c =
-    let a = c in
-    let s = c.contend-contended in
-    omega (arith, few_bits a.args.at (search rules) a.requires.0 a.args.sof a.requires.1 a.args.words.now a.requires.2 _ _ s.ensures)
+    let r = c.requires in
+    let s = c.contend-contended.ensures in
+    omega (arith, few_bits c.args.at (search rules) r.0 c.args.sof r.1 c.args.words.now r.2 _ _ s)
 
 pub offset_bounds-words-closing : goal.offset_bounds-words-closing
 offset_bounds-words-closing c =
-    let a = c in
-    let s = c.contend-contended in
-    omega (arith, few_bits a.args.at (search rules) a.requires.0 a.args.sof a.requires.1 a.args.words.now a.requires.2 _ _ s.ensures)
+    let r = c.requires in
+    let s = c.contend-contended.ensures in
+    omega (arith, few_bits c.args.at (search rules) r.0 c.args.sof r.1 c.args.words.now r.2 _ _ s)
 
 pub bounds-words-closing : goal.bounds-words-closing
 bounds-words-closing c =
-    let a = c in
-    let s = c.contend-contended in
-    omega (arith, a.requires.2, few_bits a.args.at (search rules) a.requires.0 a.args.sof a.requires.1 a.args.words.now a.requires.2 _ _ s.ensures, mid_length a.args.at (search rules) a.requires.0 a.args.sof a.requires.1 a.args.words.now a.requires.2 _ _ s.ensures)
+    let r = c.requires in
+    let s = c.contend-contended.ensures in
+    omega (
+      arith,
+      r.2,
+      few_bits c.args.at (search rules) r.0 c.args.sof r.1 c.args.words.now r.2 _ _ s,
+      mid_length c.args.at (search rules) r.0 c.args.sof r.1 c.args.words.now r.2 _ _ s,
+    )
 
 pub overflow_add-count : goal.overflow_add-count
 overflow_add-count c =
-    let a = c in
-    let s = c.contend-contended in
-    omega (arith, few_bits a.args.at (search rules) a.requires.0 a.args.sof a.requires.1 a.args.words.now a.requires.2 _ _ s.ensures)
+    let r = c.requires in
+    let s = c.contend-contended.ensures in
+    omega (arith, few_bits c.args.at (search rules) r.0 c.args.sof r.1 c.args.words.now r.2 _ _ s)
 
 pub sum-time-requires : goal.sum-time-requires
 sum-time-requires c =
-    let a = c in
-    let s = c.contend-contended in
-    (simp length-set (omega (arith, a.requires.2, few_bits a.args.at (search rules) a.requires.0 a.args.sof a.requires.1 a.args.words.now a.requires.2 _ _ s.ensures, mid_length a.args.at (search rules) a.requires.0 a.args.sof a.requires.1 a.args.words.now a.requires.2 _ _ s.ensures)), time_bound a.args.at (search rules) a.requires.0 a.args.sof a.requires.1 a.args.words.now a.requires.2 _ _ s.ensures)
+    let r = c.requires in
+    let s = c.contend-contended.ensures in
+    let fits = few_bits c.args.at (search rules) r.0 c.args.sof r.1 c.args.words.now r.2 _ _ s in
+    let long = mid_length c.args.at (search rules) r.0 c.args.sof r.1 c.args.words.now r.2 _ _ s in
+    (simp length-set (omega (arith, r.2, fits, long)), time_bound c.args.at (search rules) r.0 c.args.sof r.1 c.args.words.now r.2 _ _ s)
 
 pub shape_of-words : goal.shape_of-words
 shape_of-words c =
-    let a = c in
-    let s = c.contend-contended in
-    simp length-set (mid_length a.args.at (search rules) a.requires.0 a.args.sof a.requires.1 a.args.words.now a.requires.2 _ _ s.ensures)
+    let r = c.requires in
+    let s = c.contend-contended.ensures in
+    simp length-set (mid_length c.args.at (search rules) r.0 c.args.sof r.1 c.args.words.now r.2 _ _ s)
 
 pub returns : goal.returns
 returns c =
-    let a = c in
-    let s = c.contend-contended in
-    (answer_is a.args.at (search rules) a.requires.0 a.args.sof a.requires.1 a.args.words.now a.requires.2 _ _ s.ensures _ c.sum-time.ensures, words_are a.args.at (search rules) a.requires.0 a.args.sof a.requires.1 a.args.words.now a.requires.2 _ _ s.ensures)
+    let r = c.requires in
+    let s = c.contend-contended.ensures in (
+      answer_is c.args.at (search rules) r.0 c.args.sof r.1 c.args.words.now r.2 _ _ s _ c.sum-time.ensures,
+      words_are c.args.at (search rules) r.0 c.args.sof r.1 c.args.words.now r.2 _ _ s,
+    )

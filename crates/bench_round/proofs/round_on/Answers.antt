@@ -5,15 +5,16 @@ use Rattle.bench_round.proofs.round_on.Goals as goal
 
 pub play-answer-requires : goal.play-answer-requires
 play-answer-requires c =
-    let a = c in
-    may_play a.args.held a.args.words.now _ c.survey_all-survey.ensures c.round_told-told.result c.round_told-told.ensures _ c.is_played.ensures c.if-is_played.true
+    may_play c.args.held c.args.words.now _ c.survey_all-survey.ensures c.round_told-told.result c.round_told-told.ensures _
+    c.is_played.ensures c.if-is_played.true
 
 pub returns-then-is_played : goal.returns-then-is_played
 returns-then-is_played c =
-    let a = c in
-    plays a.args.held a.args.words.now _ c.survey_all-survey.ensures c.round_told-told.result c.round_told-told.ensures _ c.is_played.ensures c.if-is_played.true (omega arith) _ c.play-answer.ensures.0 _ c.after_round-next.ensures _ c.play-answer.ensures.1
+    plays c.args.held c.args.words.now _ c.survey_all-survey.ensures c.round_told-told.result c.round_told-told.ensures _
+    c.is_played.ensures c.if-is_played.true
+    (omega arith) _ c.play-answer.ensures.0 _ c.after_round-next.ensures _ c.play-answer.ensures.1
 
 pub returns : goal.returns
 returns c =
-    let a = c in
-    turns_away a.args.held a.args.words.now _ c.survey_all-survey.ensures c.round_told-told.result c.round_told-told.ensures _ c.is_played.ensures c.if-is_played.false _ c.turned_away-answer.ensures
+    turns_away c.args.held c.args.words.now _ c.survey_all-survey.ensures c.round_told-told.result c.round_told-told.ensures _
+    c.is_played.ensures c.if-is_played.false _ c.turned_away-answer.ensures

@@ -18,7 +18,8 @@ returns-then-few c = rw (sym c.bad_size.ensures ∙ c.if-bad_size.false, c.if-no
 
 pub returns-then-survey : goal.returns-then-survey
 unfolding round_number
-returns-then-survey c = rw (sym c.bad_size.ensures ∙ c.if-bad_size.false, c.if-not-survey.false, le-ltb _ _ c.if-few.false, c.if-survey.true)
+returns-then-survey c =
+    rw (sym c.bad_size.ensures ∙ c.if-bad_size.false, c.if-not-survey.false, le-ltb _ _ c.if-few.false, c.if-survey.true)
 
 pub returns : goal.returns
 unfolding round_number

@@ -9,18 +9,20 @@ loop-i-init c = (search rules, sum_start c.args.words.now c.args.n c.requires.0)
 
 pub overflow_add-all : goal.overflow_add-all
 overflow_add-all c =
-    let a = c in
     let l = c.loop-i in
-    omega (arith, a.requires.1, sum_fits a.args.words.now a.args.n a.requires.0 l.i l.all l.invariant.0 l.invariant.1 c.loop-i-test.true)
+    omega (
+      arith,
+      c.requires.1,
+      sum_fits c.args.words.now c.args.n c.requires.0 l.i l.all l.invariant.0 l.invariant.1
+          c.loop-i-test.true,
+    )
 
 pub loop-i-preserved : goal.loop-i-preserved
 loop-i-preserved c =
-    let a = c in
     let l = c.loop-i in
-    (search rules, sum_more a.args.words.now a.args.n a.requires.0 l.i l.all l.invariant.0 l.invariant.1 c.loop-i-test.true)
+    (search rules, sum_more c.args.words.now c.args.n c.requires.0 l.i l.all l.invariant.0 l.invariant.1 c.loop-i-test.true)
 
 pub returns : goal.returns
 returns c =
-    let a = c in
     let l = c.loop-i in
-    sum_all a.args.words.now a.args.n a.requires.0 l.i l.all l.invariant.0 l.invariant.1 c.loop-i-test.false
+    sum_all c.args.words.now c.args.n c.requires.0 l.i l.all l.invariant.0 l.invariant.1 c.loop-i-test.false

@@ -1,6 +1,6 @@
 -- `live::hear` meets its contract: a refusal, or the interval that is taken.
 use mathlib.Core.Path.{sym, ◌∙◌}
-use Rattle.live.specs.Refusing.{refused_so, taken_outside, taken_inside}
+use Rattle.live.proofs.Refusing.{refused_so, taken_outside, taken_inside}
 use Rattle.live.proofs.hear.Goals as goal
 
 pub returns-then-is_refusal : goal.returns-then-is_refusal

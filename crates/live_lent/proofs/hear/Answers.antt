@@ -1,7 +1,7 @@
 -- `live_lent::hear` meets its contract: a refusal, or what the live reader by value answers.
 use Rattle.std.proofs.Common.{sym, ap}
 use Rattle.live_answer.specs.declared.Fed.{Fed}
-use Rattle.live.specs.Refusing.{refused_so}
+use Rattle.live.proofs.Refusing.{refused_so}
 use Rattle.live_lent.proofs.hear.Goals as goal
 
 -- A refusal is the answer, and the reader and the lent bytes are as they were.

@@ -11,4 +11,5 @@ returns c =
     let n = c.clip-n.result in
     let whole : length s.bytes ≡ most_stored = omega arith in
     let few : length (take n s.bytes) ≡ n = length-take-le n s.bytes (omega arith) in
-    frame_at s whole n c.clip-n.ensures _ (rw (c.copy_from_slice.ensures.after, take-length (take n s.bytes), few)) _ c.check_byte.ensures
+    frame_at s whole n c.clip-n.ensures _
+    (rw (c.copy_from_slice.ensures.after, take-length (take n s.bytes), few)) _ c.check_byte.ensures

@@ -10,9 +10,11 @@ pub asks_at-ask-requires : goal.asks_at-ask-requires
 asks_at-ask-requires c = (search rules, c.requires.0)
 
 pub loop-i-preserved : goal.loop-i-preserved
-loop-i-preserved c =
-    let a = c in
-    (search rules, ask_more _ _ _ _ a.loop-i.i c.loop-i-test.true a.loop-i.invariant.0 _ c.asks_at-ask.ensures _ _ a.loop-i.invariant.1 c.taken_in-all.ensures)
+loop-i-preserved c = (
+  search rules,
+  ask_more _ _ _ _ c.loop-i.i c.loop-i-test.true c.loop-i.invariant.0 _ c.asks_at-ask.ensures _ _
+      c.loop-i.invariant.1 c.taken_in-all.ensures,
+)
 
 pub returns : goal.returns
 returns c = ask_all _ _ _ _ c.loop-i.i c.loop-i-test.false _ c.loop-i.invariant.1

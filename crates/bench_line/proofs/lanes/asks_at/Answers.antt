@@ -12,6 +12,4 @@ returns-then-lost_at-gt0 c = sym (out_lost _ _ _ (lt-ltb _ _ c.if-lost_at-gt0.tr
 
 pub returns : goal.returns
 returns c =
-    let b = c in
-    let a = b in
-    c.asks.ensures ∙ asks_by _ _ _ _ a.args.i (a.requires.1 a.args.i a.requires.0) _ b.byte_of.ensures
+    c.asks.ensures ∙ asks_by _ _ _ _ c.args.i (c.requires.1 c.args.i c.requires.0) _ c.byte_of.ensures

@@ -15,8 +15,12 @@ asks_at-next-requires c = (search rules, c.requires.0)
 pub loop-i-preserved : goal.loop-i-preserved
 loop-i-preserved c =
     let l = c.loop-i in
-    let m = hear_more _ _ _ _ _ l.i c.loop-i-test.true l.invariant.0 _ l.invariant.1 _ c.asks_at-ask.ensures _ c.lost_by.ensures in
-    (search rules, m, asks_more _ _ _ _ _ l.i c.loop-i-test.true l.invariant.0 _ m _ c.asks_at-next.ensures _ _ l.invariant.2 c.taken_in-all.ensures)
+    let m = hear_more _ _ _ _ _ l.i c.loop-i-test.true l.invariant.0 _ l.invariant.1 _ c.asks_at-ask.ensures _ c.lost_by.ensures in (
+      search rules,
+      m,
+      asks_more _ _ _ _ _ l.i c.loop-i-test.true l.invariant.0 _ m _ c.asks_at-next.ensures _ _ l.invariant.2
+          c.taken_in-all.ensures,
+    )
 
 pub returns : goal.returns
 returns c = let l = c.loop-i in hear_all _ _ _ _ _ l.i c.loop-i-test.false _ l.invariant.1 _ l.invariant.2

@@ -10,7 +10,9 @@ use Rattle.bench_line.proofs.lanes.hear.Given as goal
 abbrev pub invariant-loop-i : goal.invariant-loop-i
 invariant-loop-i l = (l.i ≤ most_stations)
     × (l.lost ≡ mixed (lanes_of l.counts l.frames l.shorts l.longs) l.initial.lost l.active l.j l.one l.i)
-    × (l.all ≡ all_asked (not l.active) (drop l.i (asks_at (lanes_of l.counts l.frames l.shorts l.longs) (lost_all (lanes_of l.counts l.frames l.shorts l.longs) l.initial.lost l.active l.j l.one) (not l.active) (l.j + 1))))
+    × (l.all ≡ all_asked (not l.active)
+    (drop l.i (asks_at (lanes_of l.counts l.frames l.shorts l.longs)
+    (lost_all (lanes_of l.counts l.frames l.shorts l.longs) l.initial.lost l.active l.j l.one) (not l.active) (l.j + 1))))
 
 abbrev pub decreases-loop-i : goal.decreases-loop-i
 decreases-loop-i l = l.i

@@ -19,8 +19,11 @@ hear-asked-requires c =
 
 pub loop-j-preserved : goal.loop-j-preserved
 loop-j-preserved c =
-    let s = c.loop-j in
-    (sending_more _ c.requires.0 _ _ _ _ _ _ s.invariant.0 _ s.invariant.1 c.loop-j-test.true c.if-not-asked.false _ c.on_line-one.ensures _ c.hear-asked.ensures.loses, c.hear-asked.ensures.asks)
+    let s = c.loop-j in (
+      sending_more _ c.requires.0 _ _ _ _ _ _ s.invariant.0 _ s.invariant.1 c.loop-j-test.true c.if-not-asked.false _
+          c.on_line-one.ensures _ c.hear-asked.ensures.loses,
+      c.hear-asked.ensures.asks,
+    )
 
 pub returns : goal.returns
 returns c = sending_last _ c.requires.0 _ _ _ _ _ _ c.loop-j.invariant.0 c.loop-j-test.false

@@ -7,7 +7,13 @@ pub loop-i-init : goal.loop-i-init
 loop-i-init c = (search rules, search rules, survey_start c.args.row (search rules))
 
 pub loop-i-preserved : goal.loop-i-preserved
-loop-i-preserved c = let l = c.loop-i in (search rules, l.invariant.1, survey_more _ l.i _ c.loop-i-test.true (search rules) _ _ l.invariant.2 c.surveyed-all.ensures)
+loop-i-preserved c =
+    let l = c.loop-i in (
+      search rules,
+      l.invariant.1,
+      survey_more _ l.i _ c.loop-i-test.true
+          (search rules) _ _ l.invariant.2 c.surveyed-all.ensures,
+    )
 
 pub returns : goal.returns
 returns c = survey_end _ c.loop-i.i c.loop-i-test.false _ c.loop-i.invariant.2

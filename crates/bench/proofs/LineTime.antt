@@ -8,10 +8,10 @@ use Rattle.bench.specs.declared.Station.{Station}
 use Rattle.bench.specs.Round.{round_of}
 use Rattle.bench.specs.Calls.{round, taken, lent_after}
 use Rattle.bench.specs.RoundStated.{Carried, winner_of, OnTheLine}
-use Rattle.bench.specs.RoundLaws.{carried_length}
-use Rattle.bench.specs.RowLaws.{goes_first, row_comes}
+use Rattle.bench.proofs.RoundLaws.{carried_length}
+use Rattle.bench.proofs.RowLaws.{goes_first, row_comes}
 use Rattle.bench.specs.Taken.{round_taken}
-use Rattle.bench.specs.Fates.{winner_some}
+use Rattle.bench.proofs.Fates.{winner_some}
 
 module _ (lent : List ℕ) (row : List Station) (t : taken (round lent) row ≡ true) where
   -- THE LINE of a round.

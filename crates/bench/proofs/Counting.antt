@@ -6,9 +6,9 @@ use Rattle.std.proofs.Math.Bool.{or-true}
 use Rattle.laws.specs.Tests.{never}
 use Rattle.bench.specs.Stations.{Bits}
 use Rattle.bench.specs.Order.{ahead, same_bits}
-use Rattle.bench.specs.OrderLaws.{irreflexive, equal_or_ahead, ahead_some, same_true, same_refl, same_no, different_same}
+use Rattle.bench.proofs.OrderLaws.{irreflexive, equal_or_ahead, ahead_some, same_true, same_refl, same_no, different_same}
 use Rattle.bench.specs.Histories.{among, different_ahead}
-use Rattle.bench.specs.First.{none_ahead}
+use Rattle.bench.proofs.First.{none_ahead}
 use Rattle.bench.specs.RoundStated.{first}
 use Rattle.bench.specs.WaitStated.{without, NoRepeat}
 

@@ -9,15 +9,15 @@ use Rattle.bench.specs.declared.Station.{Station}
 use Rattle.bench.specs.declared.Fared.TheVariants.{Idle}
 use Rattle.bench.specs.Stations.{Bits, bits_sent, stored, empty, waiting_at}
 use Rattle.bench.specs.Order.{ahead, same_bits}
-use Rattle.bench.specs.OrderLaws.{equal_or_ahead, ahead_differs, same_refl, different_same}
+use Rattle.bench.proofs.OrderLaws.{equal_or_ahead, ahead_differs, same_refl, different_same}
 use Rattle.bench.specs.Round.{emptied, after_fare, after_fares}
 use Rattle.bench.specs.Calls.{Call, load, withdraw, set_clock, round, taken, loaded, clocked, done, after}
 use Rattle.bench.specs.Histories.{waiting}
-use Rattle.bench.specs.First.{none_ahead}
+use Rattle.bench.proofs.First.{none_ahead}
 use Rattle.bench.specs.RoundStated.{first, against, winner_of, station_at}
-use Rattle.bench.specs.RowLaws.{fares_against, row_fares}
+use Rattle.bench.proofs.RowLaws.{fares_against, row_fares}
 use Rattle.bench.specs.Difference.{lost_there, differs, same_through}
-use Rattle.bench.specs.Places.{waiting_at_law, at_among}
+use Rattle.bench.proofs.Places.{waiting_at_law, at_among}
 use Rattle.bench.specs.Taken.{load_taken, round_taken}
 use Rattle.bench.specs.WaitStated.{without}
 

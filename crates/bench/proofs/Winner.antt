@@ -11,17 +11,17 @@ use Rattle.bench.specs.declared.Fared.TheVariants.{Idle, Through, Lost}
 use Rattle.bench.specs.declared.Verdict.{Verdict}
 use Rattle.bench.specs.Stations.{most_stations, Bits, empty, waiting_at}
 use Rattle.bench.specs.Order.{Ahead}
-use Rattle.bench.specs.OrderLaws.{ahead_is, ahead_differs}
+use Rattle.bench.proofs.OrderLaws.{ahead_is, ahead_differs}
 use Rattle.bench.specs.Round.{round_of, verdict_of, verdicts_of}
 use Rattle.bench.specs.Calls.{round, taken, all_sound, all_empty}
 use Rattle.bench.specs.Histories.{waiting}
-use Rattle.bench.specs.First.{first_among}
-use Rattle.bench.specs.RowLaws.{fares_against, row_fares}
+use Rattle.bench.proofs.First.{first_among}
+use Rattle.bench.proofs.RowLaws.{fares_against, row_fares}
 use Rattle.bench.specs.RoundStated.{winner_of, station_at, FirstDifference, fare_at, Wins}
 use Rattle.bench.specs.Taken.{round_taken}
-use Rattle.bench.specs.Places.{waiting_at_law, empty_none, some_holder, among_at}
+use Rattle.bench.proofs.Places.{waiting_at_law, empty_none, some_holder, among_at}
 use Rattle.bench.specs.Difference.{lost_there}
-use Rattle.bench.specs.Fates.{winner_some, Fate, is_idle, is_through, is_lost, fate, holder_fares}
+use Rattle.bench.proofs.Fates.{winner_some, Fate, is_idle, is_through, is_lost, fate, holder_fares}
 
 -- ## The winner
 

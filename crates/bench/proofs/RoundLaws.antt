@@ -9,7 +9,7 @@ use Rattle.bench.specs.Order.{ahead}
 use Rattle.bench.specs.Course.{longest, most_bits, play}
 use Rattle.bench.specs.Round.{Entry, absent, enters, sofs_asked, seat_of, sum_of, round_among}
 use Rattle.bench.specs.RoundStated.{first, first_of, bits_in, Carried, none, next, FairAll, EntriesInWindows, goes_out, RoundCase}
-use Rattle.bench.specs.CourseLaws.{plays_out}
+use Rattle.bench.proofs.CourseLaws.{plays_out}
 
 -- ## Entries
 

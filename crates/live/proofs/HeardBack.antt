@@ -21,7 +21,7 @@ use Rattle.frame.specs.ReadingOn.{next_of, last, more}
 use Rattle.frame.proofs.RecordingOn.{progress, ReadsOn, closing_opens}
 use Rattle.live.specs.Feeding.{started}
 use Rattle.live.specs.Shown.{Delivered, recording, Enough, after_all, shows_all, reads, shows_asked}
-use Rattle.live.specs.Whole.{live_whole}
+use Rattle.live.proofs.Whole.{live_whole}
 
 module _ (ws main : List ℕ) (kind : Response) (rs : List ℕ) (wave : FrameWave main kind rs ws) (adm : bad_message main kind rs ≡ false) (mb : Bytes main) (rb : Bytes rs) where
   -- the message as reading tells it, from the opening to the closing end

@@ -11,7 +11,7 @@ use Rattle.bench.specs.Order.{ahead}
 use Rattle.bench.specs.Course.{Pulse, Seat, out, on, asked, widths_of, lasts, on_line, heard, over, bit_then, nobody_asks, play, fared_at}
 use Rattle.bench.specs.LineLaws.{lasts_in, on_line_law}
 use Rattle.bench.specs.RoundStated.{InWindows, only_ones, first_of, first, bits_in, first_at, none, next, FairAt, FairAll, against, fare_of, Runs}
-use Rattle.bench.specs.First.{first_none, first_same_bit}
+use Rattle.bench.proofs.First.{first_none, first_same_bit}
 
 -- ## The bits of places
 

@@ -14,14 +14,14 @@ use Rattle.bench.specs.Calls.{Call, load, round, all_empty, taken, after}
 use Rattle.bench.specs.Promise.{told_number, LoadPromise}
 use Rattle.bench.specs.Histories.{waiting, ahead_in, CallMade, loads, withdraws, sets_clock, plays, Happens, nothing, then, rounds_seen, NoTrafficSeen}
 use Rattle.bench.specs.HistoryLaws.{accepted_taken}
-use Rattle.bench.specs.RowLaws.{sent_some}
+use Rattle.bench.proofs.RowLaws.{sent_some}
 use Rattle.bench.specs.RoundStated.{winner_of, station_at, RowPassed}
-use Rattle.bench.specs.Places.{waiting_at_law, some_holder}
+use Rattle.bench.proofs.Places.{waiting_at_law, some_holder}
 use Rattle.bench.specs.Taken.{taken_when, load_taken}
 use Rattle.bench.specs.RowShows.{same_length, stays_sound}
-use Rattle.bench.specs.Counting.{without_at}
-use Rattle.bench.specs.CallLaws.{round_waiting, away_same}
-use Rattle.bench.specs.WaitingEnds.{Becomes, goes_out, is_withdrawn, still_waits, outcome, loading_taken, kept, quiet_kept, quiet_loads, quiet_before}
+use Rattle.bench.proofs.Counting.{without_at}
+use Rattle.bench.proofs.CallLaws.{round_waiting, away_same}
+use Rattle.bench.proofs.WaitingEnds.{Becomes, goes_out, is_withdrawn, still_waits, outcome, loading_taken, kept, quiet_kept, quiet_loads, quiet_before}
 use Rattle.bench.specs.WaitStated.{GoesOutInTime, OnlyRounds}
 
 -- ## A round that has something to do is taken

@@ -26,11 +26,11 @@ use Rattle.live.specs.Feeding.{started, fed_of, asked_of}
 use Rattle.live.specs.Promise.{asked_told, refusal}
 use Rattle.live.specs.Hearing.{ToldSoFar, Hears, Takes, decides_nothing, decides_one}
 use Rattle.live.specs.Taking.{reached_in, reached_on}
-use Rattle.live.specs.Heard.{long, same, takes_it}
-use Rattle.live.specs.ExactlyWhen.{by_rules}
+use Rattle.live.proofs.Heard.{long, same, takes_it}
+use Rattle.live.proofs.ExactlyWhen.{by_rules}
 use Rattle.live.specs.Asking.{asks}
 use Rattle.live.specs.Shown.{on, LiveCall, after_calls}
-use Rattle.live.specs.History.{heard_so_far}
+use Rattle.live.proofs.History.{heard_so_far}
 use Rattle.live.specs.Stated.{heard_in, number_told, StopsAt, at_interval, rules_after, HearTells, is_refused, is_row}
 
 -- ## Where reading stops

@@ -10,18 +10,18 @@ use Rattle.bench.specs.declared.Station.{Station}
 use Rattle.bench.specs.declared.Called.{Called}
 use Rattle.bench.specs.declared.RoundAnswer.{RoundAnswer}
 use Rattle.bench.specs.Stations.{Bits, bits_sent, blank}
-use Rattle.bench.specs.OrderLaws.{ahead_differs, different_same}
+use Rattle.bench.proofs.OrderLaws.{ahead_differs, different_same}
 use Rattle.bench.specs.Calls.{load, withdraw, set_clock, round, taken, after}
 use Rattle.bench.specs.Promise.{called_number, told_number, LoadPromise, WithdrawPromise, ClockPromise, RoundPromise}
 use Rattle.bench.specs.Histories.{waiting, CallMade, loads, withdraws, sets_clock, plays, call_of, Keeps, Happens, nothing, then, round_seen, rounds_seen, load_seen, loads_seen, traffic_seen}
 use Rattle.bench.specs.HistoryLaws.{accepted_taken, row_after}
-use Rattle.bench.specs.First.{first_among}
-use Rattle.bench.specs.RowLaws.{sent_some}
+use Rattle.bench.proofs.First.{first_among}
+use Rattle.bench.proofs.RowLaws.{sent_some}
 use Rattle.bench.specs.RoundStated.{winner_of}
-use Rattle.bench.specs.Places.{waiting_at_law, empty_none, at_among}
+use Rattle.bench.proofs.Places.{waiting_at_law, empty_none, at_among}
 use Rattle.bench.specs.Taken.{load_taken}
-use Rattle.bench.specs.Counting.{without_at, Turn, goes_now, waits_on, turn, set_count, unset_count}
-use Rattle.bench.specs.CallLaws.{load_waiting, withdraw_waiting, clock_waiting, round_waiting, away_same}
+use Rattle.bench.proofs.Counting.{without_at, Turn, goes_now, waits_on, turn, set_count, unset_count}
+use Rattle.bench.proofs.CallLaws.{load_waiting, withdraw_waiting, clock_waiting, round_waiting, away_same}
 use Rattle.bench.specs.WaitStated.{WaitsAt, ahead_now, GoesOut}
 
 -- ## One call

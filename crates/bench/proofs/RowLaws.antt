@@ -20,8 +20,8 @@ use Rattle.bench.specs.Round.{absent, pulses_of, holder, entry_of, seat_of, roun
 use Rattle.bench.specs.Calls.{all_sound}
 use Rattle.bench.specs.Histories.{waiting}
 use Rattle.bench.specs.RoundStated.{first, bits_in, bits_at, Fair, against, fare_of, EntryInWindows, EntriesInWindows, goes_out, RoundCase, winner_of}
-use Rattle.bench.specs.CourseLaws.{plays_out}
-use Rattle.bench.specs.RoundLaws.{all_fair, goes_short, comes}
+use Rattle.bench.proofs.CourseLaws.{plays_out}
+use Rattle.bench.proofs.RoundLaws.{all_fair, goes_short, comes}
 
 -- ## A message's bits
 

@@ -23,7 +23,7 @@ use Rattle.bench.specs.Stations.{most_stored, Bits, bits_sent}
 use Rattle.bench.specs.Round.{round_of}
 use Rattle.bench.specs.Calls.{round, taken, lent_after}
 use Rattle.bench.specs.RoundStated.{Carried, none, next, winner_of, OnTheLine}
-use Rattle.bench.specs.LineTime.{on_the_line}
+use Rattle.bench.proofs.LineTime.{on_the_line}
 
 -- ## Bits and messages
 

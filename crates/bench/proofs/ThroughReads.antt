@@ -14,12 +14,12 @@ use Rattle.bench.specs.declared.Fared.TheVariants.{Through}
 use Rattle.bench.specs.Stations.{most_stored, bits_sent, stored, empty, waiting_at, sound}
 use Rattle.bench.specs.Calls.{round, taken, lent_after}
 use Rattle.bench.specs.RoundStated.{winner_of, station_at, fare_at, InMemory}
-use Rattle.bench.specs.Places.{holder_waits, some_holder}
+use Rattle.bench.proofs.Places.{holder_waits, some_holder}
 use Rattle.bench.specs.Taken.{round_taken, positive}
-use Rattle.bench.specs.Fates.{winner_some}
-use Rattle.bench.specs.Winner.{wins}
+use Rattle.bench.proofs.Fates.{winner_some}
+use Rattle.bench.proofs.Winner.{wins}
 use Rattle.bench.specs.RowShows.{sound_at}
-use Rattle.bench.specs.Readable.{round_reads}
+use Rattle.bench.proofs.Readable.{round_reads}
 
 take_bytes : (n : ℕ) (bs : List ℕ) → Bytes bs → Bytes (take n bs)
 take_bytes zero bs h = tt

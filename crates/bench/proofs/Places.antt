@@ -9,10 +9,10 @@ use Rattle.laws.specs.Tests.{never}
 use Rattle.bench.specs.declared.Station.{Station}
 use Rattle.bench.specs.Stations.{Bits, bits_sent, stored, empty, waiting_at, blank}
 use Rattle.bench.specs.Order.{same_bits}
-use Rattle.bench.specs.OrderLaws.{same_true, same_refl}
+use Rattle.bench.proofs.OrderLaws.{same_true, same_refl}
 use Rattle.bench.specs.Calls.{all_empty}
 use Rattle.bench.specs.Histories.{waiting, among}
-use Rattle.bench.specs.RowLaws.{sent_some}
+use Rattle.bench.proofs.RowLaws.{sent_some}
 use Rattle.bench.specs.RoundStated.{station_at}
 
 -- What waits at a place of the row is what waits at its station.

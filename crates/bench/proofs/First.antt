@@ -5,7 +5,7 @@ use Rattle.std.proofs.Math.Bool.{or-true}
 use Rattle.laws.specs.Tests.{never}
 use Rattle.bench.specs.Stations.{Bits}
 use Rattle.bench.specs.Order.{ahead, same_bits}
-use Rattle.bench.specs.OrderLaws.{irreflexive, asymmetric, equal_or_ahead, not_ahead_transitive, same_true, same_refl}
+use Rattle.bench.proofs.OrderLaws.{irreflexive, asymmetric, equal_or_ahead, not_ahead_transitive, same_true, same_refl}
 use Rattle.bench.specs.Histories.{among}
 use Rattle.bench.specs.RoundStated.{first_of, first}
 

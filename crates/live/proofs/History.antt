@@ -13,11 +13,11 @@ use Rattle.live_held.specs.declared.Live.{Live}
 use Rattle.live.specs.Feeding.{started, fed_of}
 use Rattle.live_held.specs.Held.{last_place}
 use Rattle.live.specs.Hearing.{Counts, place_left, all_heard_law, Hears, Takes, decides_nothing, decides_one}
-use Rattle.live.specs.Heard.{starts, takes_it}
-use Rattle.live.specs.ExactlyWhen.{refused_as, refused_leaves, hear_exactly}
+use Rattle.live.proofs.Heard.{starts, takes_it}
+use Rattle.live.proofs.ExactlyWhen.{refused_as, refused_leaves, hear_exactly}
 use Rattle.live.specs.Promise.{refusal, hear_rules, says_full}
 use Rattle.live.specs.Shown.{Delivered, recording, Enough, none, also, Shown, after_one, after_all, shows_one, shows_all, shows_calls, reads, shows_asked, LiveCall, hearing, asking, after_calls, is_taken, taken_in}
-use Rattle.live.specs.Whole.{ShowsOver, hears_all, live_whole}
+use Rattle.live.proofs.Whole.{ShowsOver, hears_all, live_whole}
 
 -- An interval that is not refused had bytes enough.
 taken_enough : (v : Live) (i : Delivered) → is_taken v i ≡ true → most_bytes ≤ length i.lent

@@ -13,20 +13,20 @@ use Rattle.bench.specs.declared.Fared.TheVariants.{Idle}
 use Rattle.bench.specs.declared.Called.{Called}
 use Rattle.bench.specs.declared.RoundAnswer.{RoundAnswer}
 use Rattle.bench.specs.Stations.{most_stored, Bits, bits_sent, waiting_at}
-use Rattle.bench.specs.OrderLaws.{same_refl}
+use Rattle.bench.proofs.OrderLaws.{same_refl}
 use Rattle.bench.specs.Round.{round_of, verdict_of}
 use Rattle.bench.specs.Calls.{load, round, number_of, taken}
 use Rattle.bench.specs.Promise.{called_number, LoadPromise, RoundPromise, RoundSaid, said, played, round_says}
 use Rattle.bench.specs.Histories.{waiting, ahead_in, CallMade, loads, withdraws, sets_clock, plays, Happens, rounds_seen, load_seen, loads_seen, withdrawal_seen, NoWithdrawalSeen, traffic_seen, NoTrafficSeen}
 use Rattle.bench.specs.RoundStated.{winner_of, station_at}
-use Rattle.bench.specs.Places.{waiting_at_law, waiting_length, empty_none}
+use Rattle.bench.proofs.Places.{waiting_at_law, waiting_length, empty_none}
 use Rattle.bench.specs.Taken.{LoadTaken, load_taken}
-use Rattle.bench.specs.Winner.{wins, verdict_at_law}
-use Rattle.bench.specs.LineTime.{on_the_line, words_first}
-use Rattle.bench.specs.Counting.{own_count, without_at}
-use Rattle.bench.specs.CallLaws.{load_waiting, round_waiting}
-use Rattle.bench.specs.Readable.{round_reads}
-use Rattle.bench.specs.Waiting.{TakenBack, Fate, out, withdrawn, waits, fate}
+use Rattle.bench.proofs.Winner.{wins, verdict_at_law}
+use Rattle.bench.proofs.LineTime.{on_the_line, words_first}
+use Rattle.bench.proofs.Counting.{own_count, without_at}
+use Rattle.bench.proofs.CallLaws.{load_waiting, round_waiting}
+use Rattle.bench.proofs.Readable.{round_reads}
+use Rattle.bench.proofs.Waiting.{TakenBack, Fate, out, withdrawn, waits, fate}
 use Rattle.bench.specs.WaitStated.{WaitsAt, ahead_now, GoesOut, RoundCarries, GoesOutInTime}
 
 -- ## What it is to go out

@@ -10,10 +10,10 @@ use Rattle.bench.specs.Stations.{empty, waiting_at, blank}
 use Rattle.bench.specs.Order.{ahead}
 use Rattle.bench.specs.Calls.{all_sound, all_empty}
 use Rattle.bench.specs.Histories.{waiting, among}
-use Rattle.bench.specs.First.{first_some, first_or_ahead}
+use Rattle.bench.proofs.First.{first_some, first_or_ahead}
 use Rattle.bench.specs.RoundStated.{against, winner_of, station_at, FirstDifference, fare_at}
-use Rattle.bench.specs.RowLaws.{fares_against, row_fares}
-use Rattle.bench.specs.Places.{waiting_at_law, holder_some, at_among, somebody}
+use Rattle.bench.proofs.RowLaws.{fares_against, row_fares}
+use Rattle.bench.proofs.Places.{waiting_at_law, holder_some, at_among, somebody}
 use Rattle.bench.specs.Difference.{lost_there, differs, same_through}
 
 module _ (row : List Station) (sound : all_sound row ≡ true) (some : all_empty row ≡ false) where

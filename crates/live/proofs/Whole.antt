@@ -18,7 +18,7 @@ use Rattle.live.specs.Feeding.{started, fed_of, lent_of, asked_of}
 use Rattle.live_held.specs.Held.{last_place}
 use Rattle.live.specs.Promise.{asked_told}
 use Rattle.live.specs.Hearing.{Hears, Takes, decides_nothing, decides_one}
-use Rattle.live.specs.Heard.{starts, takes_it}
+use Rattle.live.proofs.Heard.{starts, takes_it}
 use Rattle.live.specs.Asking.{asks}
 use Rattle.live.specs.Shown.{Delivered, recording, Enough, none, also, Shown, after_one, after_all, shown, shows_one, shows_all, reads, shows_asked, joined, shows_in, after_in, Next}
 

@@ -15,8 +15,8 @@ use Rattle.bench.specs.Round.{round_of, verdict_of, after_fare, after_fares}
 use Rattle.bench.specs.Calls.{round, number_of, taken, done, after}
 use Rattle.bench.specs.Promise.{told_number, RoundSaid, said, played, round_says, RoundPromise}
 use Rattle.bench.specs.RoundStated.{station_at, fare_at, told_fare, RoundShown}
-use Rattle.bench.specs.Winner.{wins, loses, verdict_at_law, verdicts_32}
-use Rattle.bench.specs.LineTime.{on_the_line, words_first}
+use Rattle.bench.proofs.Winner.{wins, loses, verdict_at_law, verdicts_32}
+use Rattle.bench.proofs.LineTime.{on_the_line, words_first}
 use Rattle.bench.specs.RowShows.{same_length}
 use Rattle.bench.specs.RoundExactlyWhen.{says_number}
 
