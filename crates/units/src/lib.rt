@@ -2,9 +2,9 @@
 // numbers, and a program that takes one for another reads nonsense without a complaint, so each has a type of its own that
 // no other room can mistake.
 
-// A place in a recording: the number of intervals that stand before it. Even places are passive, odd ones active.
 #![tactic(auto)]
 
+// A place in a recording: the number of intervals that stand before it. Even places are passive, odd ones active.
 #[derive(Clone, Copy)]
 pub struct Place(pub usize);
 
