@@ -33,7 +33,7 @@ enum Own {
 fn iv_line(s: &[u8]) -> Width
     ensures { result ≡ iv_of s.now }
 {
-    let m = find(s, 0, s.len(), TAB);
+    let m = find(s, TAB);
     if m == s.len() {
         return Width::Not;
     }
@@ -47,7 +47,7 @@ fn iv_line(s: &[u8]) -> Width
 fn two_labels(s: &[u8]) -> Own
     ensures { result ≡ labels_of s.now }
 {
-    let m = find(s, 0, s.len(), TAB);
+    let m = find(s, TAB);
     if m == s.len() {
         return Own::Not;
     }
@@ -67,7 +67,7 @@ fn two_labels(s: &[u8]) -> Own
 fn own_line(s: &[u8]) -> Own
     ensures { result ≡ own_of s.now }
 {
-    let m = find(s, 0, s.len(), TAB);
+    let m = find(s, TAB);
     if m == s.len() {
         return Own::Not;
     }
@@ -84,7 +84,7 @@ fn bad_line(s: &[u8]) -> usize
     let mut t = s;
     let mut k = 0;
     while t.len() > 0 {
-        let e = find(t, 0, t.len(), NEWLINE);
+        let e = find(t, NEWLINE);
         if e == t.len() {
             return FIRST_WIDTH_LINE + k;
         }
@@ -111,7 +111,7 @@ fn lay_widths(s: &[u8], lent: &mut [u32]) -> usize
     let mut t = s;
     let mut k = 0;
     while t.len() > 0 {
-        let e = find(t, 0, t.len(), NEWLINE);
+        let e = find(t, NEWLINE);
         let found = width_in(&t[WIDTH..e]);
         match found {
             Width::Of(x) => {
@@ -132,7 +132,7 @@ pub fn judge(input: &[u8], lent: &mut [u32]) -> JudgedInput
     if lent.len() < MOST_WIDTHS {
         return JudgedInput::FewLentWords;
     }
-    let e = find(input, 0, input.len(), NEWLINE);
+    let e = find(input, NEWLINE);
     if e == input.len() {
         return JudgedInput::Bad { line: 1 };
     }

@@ -36,7 +36,7 @@ pub fn why_bad(input: &[u8], line: usize) -> Reason
     let mut t = input;
     let mut left = line;
     while 1 < left {
-        let e = find(t, 0, t.len(), NEWLINE);
+        let e = find(t, NEWLINE);
         if e == t.len() {
             return Reason::Missing;
         }
@@ -50,7 +50,7 @@ pub fn why_bad(input: &[u8], line: usize) -> Reason
 fn why_first(t: &[u8], line: usize) -> Reason
     ensures { result ≡ reason_of line (first_of t.now) }
 {
-    let e = find(t, 0, t.len(), NEWLINE);
+    let e = find(t, NEWLINE);
     if e == t.len() {
         return open_reason(e);
     }

@@ -38,19 +38,18 @@ pub enum Answered {
     FewLent,
 }
 
-// The place of the first such byte between two places, or the second place where there is none.
-pub fn find(s: &[u8], start: usize, end: usize, byte: u8) -> usize
-    requires start_le_end { start ≤ end }
-    requires end_in_bounds { end ≤ length s.now }
-    ensures place { result ≡ start + index_of byte (slice start end s.now) }
-    ensures within { result ≤ end }
+// The place of the first such byte of a text, or the text's length where there is none.
+pub fn find(s: &[u8], byte: u8) -> usize
+    ensures first { result ≡ index_of byte s.now }
+    ensures place { result ≡ 0 + index_of byte (slice 0 (length s.now) s.now) }
+    ensures within { result ≤ length s.now }
 {
-    let mut i = start;
-    while i < end {
+    let mut i = 0;
+    while i < s.len() {
         if s[i] == byte {
             return i;
         }
         i += 1;
     }
-    end
+    s.len()
 }
