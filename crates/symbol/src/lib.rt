@@ -100,6 +100,7 @@ fn class_passive(w: u32) -> Symbol
 }
 
 // The symbol of an active interval, where a short bit is a 1.
+#[tactic(auto, unfolding(crate::specs::Classes::class_of))]
 fn class_active(w: u32) -> Symbol
     ensures { result ≡ class_of true w }
 {

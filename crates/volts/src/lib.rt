@@ -82,6 +82,7 @@ pub fn judge(gate: Gate, sample: f32) -> Judged
 }
 
 // What a gate says of volts from which the offset is taken away already. Whether they are a finite number is not asked.
+#[tactic(auto, unfolding(crate::specs::Judging::against))]
 pub fn against_levels(gate: Gate, volts: f32) -> Judged
     ensures { result ≡ against gate volts }
 {
