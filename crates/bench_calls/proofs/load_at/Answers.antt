@@ -1,6 +1,7 @@
 -- `bench_calls::load_at` meets its contract: a law for each way out.
 use mathlib.Core.Path.{sym, ◌∙◌}
 use native.Mathlib.Omega.{arith}
+use borrow.Author.Rules.{rules}
 use Rattle.bench_calls.specs.ChangeLaws.{load_bad, load_holding, load_done}
 use Rattle.bench_calls.proofs.load_at.Goals as goal
 
@@ -16,4 +17,4 @@ returns-then-holding c =
 pub returns : goal.returns
 returns c =
     load_done c.args.held c.args.place _ (omega arith) _ (sym c.bad_message-bad.ensures
-    ∙ c.if-bad.false) c.if-holding.false _ c.loaded-next.ensures _ c.taken.ensures
+    ∙ c.if-bad.false) c.if-holding.false _ (search rules) _ c.taken.ensures
