@@ -3,3 +3,4 @@ pub mod Changing
 pub mod Turns
 pub mod Rules
 pub mod Usable
+mod Exits

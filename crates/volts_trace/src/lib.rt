@@ -87,7 +87,8 @@ fn write_intervals(gate: Gate, samples: &[f32], words: &mut [u32]) -> usize
     while i < samples.len() {
         let judged = volts::against_levels(gate, samples[i] - gate.offset);
         let lasted = width.0;
-        if changes(active, judged) {
+        let turns = changes(active, judged);
+        if turns {
             let at = next.0;
             words[at] = lasted;
             let after = at + 1;
@@ -109,6 +110,7 @@ fn write_intervals(gate: Gate, samples: &[f32], words: &mut [u32]) -> usize
 // first sample to the last. They are written to the front of the lent words, which must be one more than the samples, and
 // the answer is how many were written. A trace that is too long, a gate that cannot judge, too few lent words or a sample
 // that cannot be used is turned away, in this order, and then no word is changed.
+#[tactic(auto, using(crate::proofs::Exits::too_many, crate::proofs::Exits::bad_gate, crate::proofs::Exits::few_words, crate::proofs::Exits::some_unusable, crate::proofs::Exits::nothing, crate::proofs::Exits::counted))]
 pub fn intervals(gate: Gate, samples: &[f32], words: &mut [u32]) -> Traced
     ensures { TracePromise gate samples.now words.old result words.new }
 {

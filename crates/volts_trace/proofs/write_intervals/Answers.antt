@@ -1,14 +1,16 @@
 -- `volts_trace::write_intervals` meets its contract. The loop's invariant is the record `Turn`. Assumes nothing.
-use mathlib.Core.Path.{sym, ap, ◌∙◌}
-use mathlib.Core.Bool.{not, beq}
+use mathlib.Core.Path.{◌≡◌}
+use mathlib.Core.Bool.{true, false, not, beq}
+use lib.Ieee.{nan}
+use lib.ListN.{get_or}
+use Rattle.volts.specs.Judging.{judged}
 use native.Mathlib.Omega.{arith}
-use Rattle.volts.specs.declared.Judged.{Judged}
 use Rattle.volts.specs.Levels.{level_after}
 use Rattle.volts_trace.proofs.Changing.{changed, unchanged, other_level, same_level}
 use Rattle.volts_trace.proofs.Usable.{usable_at}
 use Rattle.volts_trace.proofs.Turns.{turn_first, turn_same, turn_other, turn_count, turn_words}
 use Rattle.volts_trace.proofs.write_intervals.Goals as goal
-use Rattle.volts_trace.proofs.write_intervals.Goals.{then-changes, else-changes}
+use Rattle.volts_trace.proofs.write_intervals.Goals.{then-turns, else-turns}
 
 pub loop-i-init : goal.loop-i-init
 loop-i-init c = turn_first _ _ _
@@ -17,16 +19,17 @@ pub loop-i-preserved : goal.loop-i-preserved
 loop-i-preserved c =
     let turn = c.loop-i.invariant in
     let active = c.loop-i.active in
-    let none = c.requires.samples_value in
-    let usable = usable_at _ _ _ none c.loop-i-test.true in
-    let changing = c.changes.ensures ∙ ap (λ (j : Judged). not (beq (level_after active j) active)) (c.against_levels-judged.ensures ∙ usable) in
-    elim c.if-changes.branch [
-      | then-changes w ↦
+    let level = level_after active (judged c.args.gate (get_or c.args.samples.now c.loop-i.i nan)) in
+    let usable = usable_at _ _ _ c.requires.samples_value c.loop-i-test.true in
+    elim c.if-turns.branch [
+      | then-turns w ↦
+          let turned : not (beq level active) ≡ true = cc in
           rw (w.words-is, w.next-is, w.width-is, w.active-is)
-          (turn_other _ _ _ _ _ _ _ _ turn _ c.loop-i-test.true (changed _ _ (sym changing ∙ w.if-changes.true)) (omega arith) (other_level active))
-      | else-changes w ↦
+          (turn_other _ _ _ _ _ _ _ _ turn _ c.loop-i-test.true (changed level active turned) (omega arith) (other_level active))
+      | else-turns w ↦
+          let stayed : not (beq level active) ≡ false = cc in
           rw (w.words-is, w.next-is, w.width-is, w.active-is)
-          (turn_same _ _ _ _ _ _ _ _ turn _ c.loop-i-test.true (unchanged _ _ (sym changing ∙ w.if-changes.false)) (same_level active))
+          (turn_same _ _ _ _ _ _ _ _ turn _ c.loop-i-test.true (unchanged level active stayed) (same_level active))
     ]
 
 pub returns : goal.returns
