@@ -1,5 +1,5 @@
 // The live reader by value: one interval more, and what is asked of it between two intervals. What it answers is what
-// reading the whole recording answers; specs/Whole.antt says so of every reader that was started and heard intervals.
+// reading the whole recording answers; proofs/Whole.antt says so of every reader that was started and heard intervals.
 #![tactic(auto)]
 
 ghost use Rattle.std.specs.Prelude.{◌≡◌, length};
@@ -41,6 +41,7 @@ pub fn start() -> Live
 }
 
 // The refusal of an interval with so many bytes lent, 51 before 32. It is nothing where the interval is taken.
+#[tactic(auto, unfolding(crate::specs::Feeding::refusal_of))]
 pub fn refusal(live: Live, lent: usize) -> Heard
     ensures { result ≡ refusal_of live lent }
 {
