@@ -20,7 +20,7 @@ use Rattle.desk_text.specs.Whole.{recording_few}
 use Rattle.desk_text.specs.FoundLines.{rest_all, open_line, closed_line}
 use Rattle.desk_text.specs.Promise.{JudgedTale, if_good, judging_by, judging, judged_told, laid_on, JudgePromise}
 use Rattle.desk_judge.specs.declared.Own.{Own}
-use Rattle.desk_judge.specs.declared.Own.TheVariants.{Of as Two, Not as None}
+use Rattle.desk_judge.specs.declared.Own.TheVariants.{Of as Two, Not as NoOwn}
 use Rattle.desk_judge.specs.Found.{own_by, own_of, WidthsLaid, AfterOwn, judged_by}
 
 -- ## After a good first line
@@ -51,11 +51,11 @@ own_good l labels e = go (own_line (shut l)) refl e
     go true p q = (p, cc, cc)
     go false p q = let z : ◌≡◌ {A = ℕ} 0 1 = cc in absurd (omega arith)
 
-own_bad : (l : List ℕ) → own_of l ≡ None → own_line (shut l) ≡ false
+own_bad : (l : List ℕ) → own_of l ≡ NoOwn → own_line (shut l) ≡ false
 unfolding own_of
 own_bad l e = go (own_line (shut l)) refl e
   where
-    go : (b : Bool) → own_line (shut l) ≡ b → own_by b (field 1 (shut l)) (field 2 (shut l)) ≡ None → own_line (shut l) ≡ false
+    go : (b : Bool) → own_line (shut l) ≡ b → own_by b (field 1 (shut l)) (field 2 (shut l)) ≡ NoOwn → own_line (shut l) ≡ false
     go true p q = let z : ◌≡◌ {A = ℕ} 0 1 = cc in absurd (omega arith)
     go false p q = p
 
@@ -103,7 +103,7 @@ module _ (s entry : List ℕ) (h : most_widths ≤ length entry) where
       split : lines s ≡ shut (take e s) ∷ lines (drop (e + 1) s)
       split = closed_line s at inside closed
 
-      pub first_bad_law : {w : Own} → w ≡ own_of (take e s) → w ≡ None → JudgePromise s entry entry (Bad 1)
+      pub first_bad_law : {w : Own} → w ≡ own_of (take e s) → w ≡ NoOwn → JudgePromise s entry entry (Bad 1)
       first_bad_law a b =
           let n : own_line (shut (take e s)) ≡ false = own_bad (take e s) (sym a ∙ b) in
           refused_first (shut (take e s) ∷ lines (drop (e + 1) s)) split (rw n)

@@ -18,7 +18,7 @@ use Rattle.desk_text.specs.PieceLaws.{pieces_first, pieces_none, Shape, one, sev
 use Rattle.desk_field.specs.declared.Width.{Width}
 use Rattle.desk_field.specs.declared.Width.TheVariants.{Not}
 use Rattle.desk_judge.specs.declared.Own.{Own}
-use Rattle.desk_judge.specs.declared.Own.TheVariants.{Of as Two, Not as None}
+use Rattle.desk_judge.specs.declared.Own.TheVariants.{Of as Two, Not as NoOwn}
 use Rattle.desk_judge.specs.Found.{own_by, iv_of, own_of, labels_of}
 use Rattle.desk_field.specs.Widths.{width_of}
 
@@ -70,12 +70,12 @@ module _ (s : List ℕ) (m : ℕ) (at : m ≡ 0 + index_of 9 (slice 0 (length s)
 
   -- ## Two labels
 
-  pub labels_alone : m ≡ length s → None ≡ labels_of s
+  pub labels_alone : m ≡ length s → NoOwn ≡ labels_of s
   unfolding labels_of
   labels_alone h = rw (alone h)
 
   module _ (h : m ≤ length s) (n : m ≡ length s → ⊥) where
-    pub labels_first : {r : Bool} → r ≡ is_label (take m s) → not r ≡ true → None ≡ labels_of s
+    pub labels_first : {r : Bool} → r ≡ is_label (take m s) → not r ≡ true → NoOwn ≡ labels_of s
     unfolding labels_of
     labels_first {r} e t = rw (parts h n, ← e, not-true r t, and-false)
 
@@ -88,7 +88,7 @@ module _ (s : List ℕ) (m : ℕ) (at : m ≡ 0 + index_of 9 (slice 0 (length s)
     unfolding label_byte
     last {r} e t = label_last (drop (m + 1) s) (parts h n) (sym e ∙ not-false r t) (shape label_byte tab refl (drop (m + 1) s))
 
-    pub labels_second : {q r : Bool} → r ≡ is_label (take m s) → not r ≡ false → q ≡ is_label (take (length s - (m + 1)) (drop (m + 1) s)) → not q ≡ true → None ≡ labels_of s
+    pub labels_second : {q r : Bool} → r ≡ is_label (take m s) → not r ≡ false → q ≡ is_label (take (length s - (m + 1)) (drop (m + 1) s)) → not q ≡ true → NoOwn ≡ labels_of s
     labels_second {q} e t p u = rw (← last e t, ← rest_all s (m + 1), ← p, not-true q u)
 
     pub labels_both : {q r : Bool} → r ≡ is_label (take m s) → not r ≡ false → q ≡ is_label (take (length s - (m + 1)) (drop (m + 1) s)) → not q ≡ false
@@ -101,12 +101,12 @@ module _ (s : List ℕ) (m : ℕ) (at : m ≡ 0 + index_of 9 (slice 0 (length s)
 
   -- ## An `own` line
 
-  pub own_alone : m ≡ length s → None ≡ own_of s
+  pub own_alone : m ≡ length s → NoOwn ≡ own_of s
   unfolding own_of own_line
   own_alone h = rw (alone h)
 
   module _ (h : m ≤ length s) (n : m ≡ length s → ⊥) where
-    pub own_other : {r : Bool} → r ≡ same (take m s) own → not r ≡ true → None ≡ own_of s
+    pub own_other : {r : Bool} → r ≡ same (take m s) own → not r ≡ true → NoOwn ≡ own_of s
     unfolding own_of own_line
     own_other {r} e t = rw (parts h n, ← e, not-true r t, and-false)
 

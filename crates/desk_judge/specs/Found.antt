@@ -11,12 +11,12 @@ use Rattle.desk_text.specs.declared.JudgedInput.TheVariants.{Good, Bad}
 use Rattle.desk_field.specs.declared.Width.{Width}
 use Rattle.desk_field.specs.Widths.{width_by}
 use Rattle.desk_judge.specs.declared.Own.{Own}
-use Rattle.desk_judge.specs.declared.Own.TheVariants.{Of as Two, Not as None}
+use Rattle.desk_judge.specs.declared.Own.TheVariants.{Of as Two, Not as NoOwn}
 
 -- the labels where a test holds, by their lengths
 abbrev pub own_by : Bool → List ℕ → List ℕ → Own
 own_by true c v = Two (record { customer = length c; vehicle = length v })
-own_by false c v = None
+own_by false c v = NoOwn
 
 -- the bytes of a line, which a newline closes, as an `iv` line ..
 unfoldable pub iv_of : List ℕ → Width
