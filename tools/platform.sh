@@ -24,14 +24,28 @@ kit_home() {
     echo "${kit_rt%/bin/*}"
 }
 
-# Whether the desk that stands there was made of the files as they are.
+# What the desk that stands there was made with: the kit, the files of the crates, and the desk itself.
+desk_made_with() {
+    { rt version; find crates.txt crates -name out -prune -o -type f -print | LC_ALL=C sort | xargs sha256sum crates/desk/out/desk; } | sha256sum
+}
+
+# Says that the desk that stands there was made of the files as they are; for whoever has just made it.
+desk_is_made() {
+    mkdir -p target/log
+    desk_made_with >target/log/desk.stamp
+}
+
+# Whether the desk that stands there was made of the files as they are, with this kit.
 desk_is_new() {
-    [ -x crates/desk/out/desk ] && [ -z "$(find crates.txt crates -name out -prune -o -type f -newer crates/desk/out/desk -print)" ]
+    [ -x crates/desk/out/desk ] && [ -e target/log/desk.stamp ] && [ "$(desk_made_with)" = "$(cat target/log/desk.stamp)" ]
 }
 
 # Proves and builds the desk where it is not new. What the prover says goes to the file named.
 desk_proved() {
-    desk_is_new || (cd crates/desk && rt run -- --help) >"$1" 2>&1 || desk_is_new
+    ! desk_is_new || return 0
+    rm -f crates/desk/out/desk # where it then stands it was made anew, also where it could not be run
+    (cd crates/desk && rt run -- --help) >"$1" 2>&1 || [ -x crates/desk/out/desk ] || return 1
+    desk_is_made
 }
 
 # The first emulator of x86-64: on the PATH, or the one that the kit has beside its compiler.

@@ -114,6 +114,8 @@ def see(desk, second, Different):
         expect(not ran.stdout and ran.stderr, "an empty name")
         ran = run("x" * 5000)
         expect(not ran.stdout and ran.stderr, "a name that is too long")
+        ran = run(b"\xff\xfe")
+        expect((ran.stdout, ran.returncode) == (b"", 0) and ran.stderr == b"desk: the argument: it is not UTF-8\n", "a name that is not UTF-8")
         named = os.path.join(folder, "a b\n\t-")
         with open(named, "wb") as file:
             file.write(truck)
