@@ -137,6 +137,7 @@ fn taken(held: HeldRow, place: usize, station: Station) -> Changed
 }
 
 // The held row with a station put at place i. A place past the 32nd is not kept.
+#[tactic(auto, using(crate::proofs::Setting::unset_past), unfolding(crate::specs::Changes::with_of))]
 fn with(held: HeldRow, i: usize, station: Station) -> HeldRow
     ensures { result ≡ with_of held i station }
 {
@@ -166,7 +167,8 @@ fn withdraw_at(held: HeldRow, place: usize) -> Changed
     ensures { ChangedBy held (withdraw_at_number held place) (withdrawn_row held place) result }
 {
     let station = held.at[place];
-    if station.len == 0 {
+    let nothing = station.len == 0;
+    if nothing {
         return away(held, Called::NothingWaiting);
     }
     let next = bench_row::empty(station);

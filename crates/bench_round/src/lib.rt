@@ -51,6 +51,7 @@ pub fn round_on(held: HeldRow, words: &mut [u32]) -> Played
 }
 
 // Why a round is turned away, in document 01's order, or that it is played.
+#[tactic(auto, unfolding(crate::specs::Rounds::round_number))]
 fn round_told(count: usize, survey: Survey, lent: usize) -> RoundTold
     ensures { told_number result ≡ round_number count survey lent }
 {

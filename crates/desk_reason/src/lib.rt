@@ -68,6 +68,7 @@ fn ends_in_return(l: &[u8]) -> bool
 }
 
 // Why a line of so many bytes is bad that no newline closes.
+#[tactic(auto, unfolding(crate::specs::Reasons::open_reason))]
 fn open_reason(length: usize) -> Reason
     ensures { result ≡ open_reason length }
 {

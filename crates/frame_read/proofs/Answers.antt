@@ -10,14 +10,13 @@ use Rattle.symbol.specs.Classes.{class_of}
 use Rattle.frame.specs.declared.Fault.{Fault}
 use Rattle.frame.specs.declared.Sign.{Sign}
 use Rattle.frame.specs.declared.Reading.{Reading}
-use Rattle.frame.specs.declared.Reading.TheVariants.{Quiet, Unfinished, Faulty, PastRecording, FewLentBytes}
+use Rattle.frame.specs.declared.Reading.TheVariants.{Quiet, Unfinished, Faulty}
 use Rattle.frame.specs.Line.{active_at, Line, single, nowhere, at, first_in, opening}
 use Rattle.frame.specs.Standing.{stands}
 use Rattle.frame.specs.Faults.{most_bytes}
-use Rattle.frame.specs.Reading.{Outcome, refused, fault_at, decides, decided, read_by, reading}
-use Rattle.frame.specs.ReadPromise.{fault_number, tells, lent_after, ReadPromise}
+use Rattle.frame.specs.Reading.{fault_at, decides, decided, read_by}
+use Rattle.frame.specs.ReadPromise.{fault_number}
 use Rattle.frame.proofs.ShownLaws.{shows_class}
-use Rattle.frame.proofs.Outcomes.{reads_31, reads_32, reads_by}
 use Rattle.frame_machine.specs.declared.Machine.{Machine}
 use Rattle.frame_machine.specs.declared.Event.{Event}
 use Rattle.frame_machine.specs.declared.Stepped.{Stepped}
@@ -77,20 +76,3 @@ module _ (l : Line) (p : ℕ) (entry : List ℕ) where
   pub opened_meets : (o : ℕ) (exit : List ℕ) (r : Reading) → opening l p ≡ at o → Meets (read_by (at o) most_bytes l p) entry exit r
       → Meets (read_by (opening l p) most_bytes l p) entry exit r
   opened_meets o exit r e v = rw e v
-
--- ## The refusals, and the promise
-
-module _ (ws : List ℕ) (p : ℕ) (entry : List ℕ) where
-  -- what the call comes to meets its promise
-  meets : (x : Outcome) (exit : List ℕ) (r : Reading) → reading ws p (length entry) ≡ x → Meets x entry exit r → ReadPromise ws p entry exit r
-  meets x exit r e v = record { tells_it = v.tells_it ∙ ap tells (sym e); lends_it = v.lends_it ∙ ap (λ (y : Outcome). lent_after y entry) (sym e) }
-
-  pub past_promise : length ws < p → ReadPromise ws p entry entry PastRecording
-  past_promise h = meets (refused 31) entry PastRecording (reads_31 most_bytes (single ws) p (length entry) h) (record { tells_it = refl; lends_it = refl })
-
-  pub few_promise : p ≤ length ws → length entry < most_bytes → ReadPromise ws p entry entry FewLentBytes
-  few_promise g h = meets (refused 32) entry FewLentBytes (reads_32 most_bytes (single ws) p (length entry) g h) (record { tells_it = refl; lends_it = refl })
-
-  pub read_promise : (exit : List ℕ) (r : Reading) → p ≤ length ws → most_bytes ≤ length entry → Meets (read_by (opening (single ws) p) most_bytes (single ws) p) entry exit r
-      → ReadPromise ws p entry exit r
-  read_promise exit r g h v = meets (read_by (opening (single ws) p) most_bytes (single ws) p) exit r (reads_by most_bytes (single ws) p (length entry) g h) v

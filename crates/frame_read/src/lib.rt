@@ -96,6 +96,7 @@ fn read_open(intervals: &[u32], opening: usize, lent: &mut [u8]) -> Reading
 }
 
 // Reading from a position where the opening is found: quiet, if no interval stands after it.
+#[tactic(auto, using(crate::proofs::Answers::alone_meets, crate::proofs::Answers::followed_meets))]
 fn read_found(intervals: &[u32], from: usize, opening: usize, lent: &mut [u8]) -> Reading
     requires opening_in_bounds { opening < length intervals.now }
     requires most_bytes_in_bounds { most_bytes ≤ length lent.old }
@@ -121,6 +122,7 @@ fn read_from(intervals: &[u32], from: usize, lent: &mut [u8]) -> Reading
 }
 
 // Reading from a position: document 01, "What reading answers".
+#[tactic(auto, using(frame::proofs::Outcomes::reads_31, frame::proofs::Outcomes::reads_32, frame::proofs::Outcomes::reads_by))]
 pub fn read(intervals: &[u32], from: Place, lent: &mut [u8]) -> Reading
     ensures { ReadPromise intervals.now from.0 lent.old lent.new result }
 {

@@ -82,6 +82,7 @@ pub fn hear(live: Live, width: Micros, lent: &mut [u8]) -> Fed
 }
 
 // What there is between two intervals. An opening that no interval follows yet is no unfinished frame.
+#[tactic(auto, unfolding(crate::specs::Feeding::asked_of))]
 pub fn ask(live: Live) -> Asked
     ensures { result ≡ asked_of live }
 {

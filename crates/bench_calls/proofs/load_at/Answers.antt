@@ -1,20 +1,16 @@
--- `bench_calls::load_at` meets its contract: a law for each way out.
-use mathlib.Core.Path.{sym, ◌∙◌}
+-- `bench_calls::load_at` meets its contract: a lemma for each way out.
 use native.Mathlib.Omega.{arith}
 use borrow.Author.Rules.{rules}
-use Rattle.bench_calls.specs.ChangeLaws.{load_bad, load_holding, load_done}
+use Rattle.bench_calls.proofs.Loading.{loads_bad, loads_holding, loads_done}
 use Rattle.bench_calls.proofs.load_at.Goals as goal
 
 pub returns-then-bad : goal.returns-then-bad
-returns-then-bad c =
-    rw c.away.ensures (load_bad c.args.held c.args.place c.args.message.now (sym c.bad_message-bad.ensures ∙ c.if-bad.true))
+returns-then-bad c = loads_bad _ _ _ c.bad_message-bad.result _ c.bad_message-bad.ensures (search rules) (search rules)
 
 pub returns-then-holding : goal.returns-then-holding
 returns-then-holding c =
-    rw c.away-then-holding.ensures (load_holding c.args.held c.args.place _ (omega arith) _ (sym c.bad_message-bad.ensures
-    ∙ c.if-bad.false) c.if-holding.true)
+    loads_holding _ _ _ c.bad_message-bad.result _ c.bad_message-bad.ensures (omega arith) (search rules) (search rules) (search rules)
 
 pub returns : goal.returns
 returns c =
-    load_done c.args.held c.args.place _ (omega arith) _ (sym c.bad_message-bad.ensures
-    ∙ c.if-bad.false) c.if-holding.false _ (search rules) _ c.taken.ensures
+    loads_done _ _ _ c.bad_message-bad.result _ c.bad_message-bad.ensures (omega arith) (search rules) _ (search rules) (search rules) c.taken.ensures

@@ -3,10 +3,10 @@ use native.Mathlib.Omega.{arith}
 use Rattle.bench_calls.specs.ChangeLaws.{withdraw_nothing, withdraw_done}
 use Rattle.bench_calls.proofs.withdraw_at.Goals as goal
 
-pub returns-then-station-eq0 : goal.returns-then-station-eq0
-returns-then-station-eq0 c =
-    rw c.away.ensures (withdraw_nothing c.args.held c.args.place _ (omega arith) c.if-station-eq0.true)
+pub returns-then-nothing : goal.returns-then-nothing
+returns-then-nothing c =
+    rw c.away.ensures (withdraw_nothing c.args.held c.args.place _ (omega arith) c.if-nothing.true)
 
 pub returns : goal.returns
 returns c =
-    withdraw_done c.args.held c.args.place _ (omega arith) c.if-station-eq0.false _ c.empty-next.ensures _ c.taken.ensures
+    withdraw_done c.args.held c.args.place _ (omega arith) c.if-nothing.false _ c.empty-next.ensures _ c.taken.ensures
