@@ -88,7 +88,8 @@ fn bad_line(s: &[u8]) -> usize
         if e == t.len() {
             return FIRST_WIDTH_LINE + k;
         }
-        if k == MOST_WIDTHS {
+        let full = k == MOST_WIDTHS;
+        if full {
             return FIRST_WIDTH_LINE + k;
         }
         let found = iv_line(&t[..e]);
@@ -144,6 +145,7 @@ pub fn judge(input: &[u8], lent: &mut [u32]) -> JudgedInput
 }
 
 // What follows a good first line: all lines are judged before a width is laid.
+#[tactic(auto, using(crate::proofs::Exits::none_bad, crate::proofs::Exits::after_good, crate::proofs::Exits::after_bad))]
 fn after_own(s: &[u8], labels: Labels, lent: &mut [u32]) -> JudgedInput
     requires { most_widths ≤ length lent.old }
     ensures { AfterOwn labels s.now lent.old lent.new result }

@@ -11,8 +11,8 @@ loop-t-init c = search (rules, passed_start)
 pub returns-then-e-t : goal.returns-then-e-t
 returns-then-e-t c = search (rules, passed_open)
 
-pub returns-then-k-eq-MOST_WIDTHS : goal.returns-then-k-eq-MOST_WIDTHS
-returns-then-k-eq-MOST_WIDTHS c = search (rules, passed_full)
+pub returns-then-full : goal.returns-then-full
+returns-then-full c = search (rules, passed_full)
 
 pub slice_bounds-iv_line-end : goal.slice_bounds-iv_line-end
 slice_bounds-iv_line-end c = sym (length-take-le _ _ (search rules))
