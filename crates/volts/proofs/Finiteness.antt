@@ -1,28 +1,19 @@
--- What the code's tests say of a float: that it is finite exactly where it lies between the two infinities, that a finite
--- difference has a finite minuend, and what a test `!finite(..)` says. Assumes nothing.
-use mathlib.Core.Path.{◌≡◌, refl, sym, ◌∙◌}
+-- What the code's tests say of a float: that the library's test for a finite number is the definition's, and that a finite
+-- difference has a finite minuend. Assumes nothing.
+use mathlib.Core.Path.{◌≡◌, refl}
 use mathlib.Core.Bool.{Bool, true, false, cond, not, ◌&&◌, beq}
-use lib.Ieee.{Float, nan, inf, fin, binary32, lt, neg, add, sub, of_bits}
-use Rattle.volts.specs.Judging.{is_finite}
+use lib.Ieee.{Float, nan, inf, fin, binary32, neg, add, sub}
+use Rattle.std.specs.Float.{float_is_finite}
+use Rattle.volts.specs.Judging.{is_finite, corrected, against, judged}
+use Rattle.volts.specs.declared.Gate.{Gate}
+use Rattle.volts.specs.declared.Judged.TheVariants.{Unusable}
 
--- the bits of the infinity that the code compares with
-abbrev pub infinity : Float
-infinity = of_bits binary32 0x7f80_0000
-
--- below the infinity: finite exactly where it is above the negative one
-pub below_infinity : (x : Float) → lt x infinity ≡ true → lt (neg infinity) x ≡ is_finite x
-unfolding lt neg of_bits is_finite
-below_infinity nan h = refl
-below_infinity (inf true) h = refl
-below_infinity (inf false) h = sym h
-below_infinity (fin s m e) h = refl
-
--- not below it: the infinity itself, or a NaN
-pub not_below_infinity : (x : Float) → lt x infinity ≡ false → false ≡ is_finite x
-unfolding lt of_bits is_finite
-not_below_infinity nan h = refl
-not_below_infinity (inf s) h = refl
-not_below_infinity (fin s m e) h = sym h
+-- the library's test is the definition
+pub same_finite : (x : Float) → float_is_finite x ≡ is_finite x
+unfolding float_is_finite is_finite
+same_finite nan = refl
+same_finite (inf s) = refl
+same_finite (fin s m e) = refl
 
 no_cancelling : (s b : Bool) → false ≡ is_finite (cond b (inf s) nan)
 unfolding is_finite
@@ -30,7 +21,7 @@ no_cancelling s true = refl
 no_cancelling s false = refl
 
 -- a sample that is not finite leaves no finite difference, so that both are finite exactly where the difference is
-pub difference : (x o : Float) → (is_finite x && is_finite (sub binary32 x o)) ≡ is_finite (sub binary32 x o)
+difference : (x o : Float) → (is_finite x && is_finite (sub binary32 x o)) ≡ is_finite (sub binary32 x o)
 unfolding is_finite sub add neg
 difference nan o = refl
 difference (inf s) nan = refl
@@ -38,9 +29,11 @@ difference (inf s) (inf t) = no_cancelling s (beq s (not t))
 difference (inf s) (fin t n d) = refl
 difference (fin s m e) o = refl
 
--- what a test `!f(..)` says of the value that f is known to answer
-pub said_no : {r a : Bool} → r ≡ a → r ≡ false → a ≡ false
-said_no e h = sym e ∙ h
+-- what the test of a difference says of the sample's judgement
+pub usable : (g : Gate) (x : Float) → float_is_finite (corrected g x) ≡ true → against g (corrected g x) ≡ judged g x
+unfolding judged
+usable g x h = rw (difference, ← same_finite, h)
 
-pub said_yes : {r a : Bool} → r ≡ a → r ≡ true → a ≡ true
-said_yes e h = sym e ∙ h
+pub unusable : (g : Gate) (x : Float) → float_is_finite (corrected g x) ≡ false → Unusable ≡ judged g x
+unfolding judged
+unusable g x h = rw (difference, ← same_finite, h)

@@ -1,7 +1,7 @@
 -- Laws.
 -- When the open call gives which answer: each refusal exactly when its rule is the first to hold, with the words as they
 -- were, and a number of intervals exactly when no rule holds. Laws, with what has to be so for each outcome.
-use Rattle.std.specs.Prelude.{ℕ, ◌<◌, ◌≡◌, Bool, true, false, cond, List, ◌++◌, ◌↔◌, eqb, Float, length, drop}
+use Rattle.std.specs.Prelude.{ℕ, ◌<◌, ◌≡◌, Bool, true, false, cond, List, ◌++◌, ◌↔◌, eqb, Float, Result, Ok, Err, length, drop}
 use Rattle.std.proofs.Math.Path.{refl, sym, ap}
 use Rattle.std.proofs.Common.{◌∙◌, arith}
 use borrow.Author.Tests.{eqb-true, ne_eqb}
@@ -10,8 +10,8 @@ use Rattle.laws.specs.RuleLaws.{first_is, none_is}
 use Rattle.volts.specs.Intervals.{intervals_of}
 use Rattle.volts.specs.Promise.{TraceOutcome, wrote, turned_away, numbered, rules, outcome_by, outcome, words_after, TracePromise}
 use Rattle.volts.specs.declared.Gate.{Gate}
-use Rattle.volts.specs.declared.Traced.{Traced}
-use Rattle.volts.specs.declared.Traced.TheVariants.{Intervals, TooManySamples, BadGate, TooFewWords, UnusableSample}
+use Rattle.volts.specs.declared.TraceRefusal.{TraceRefusal}
+use Rattle.volts.specs.declared.TraceRefusal.TheVariants.{TooManySamples, BadGate, TooFewWords, UnusableSample}
 
 -- what has to be so of a call for each outcome
 abbrev pub RuleOf : Gate → List Float → List ℕ → TraceOutcome → Type 0
@@ -56,18 +56,18 @@ module _ (g : Gate) (s : List Float) (lent : List ℕ) where
         λ f. rw (law.1 f.0, f.1),
       )
 
-  by_rule : (r : Traced) → RuleOf g s lent (numbered r) → outcome g s lent ≡ numbered r
-  by_rule (Intervals n) h = (written_is n).1 h
-  by_rule TooManySamples h = (refused 33 (omega arith)).1 h
-  by_rule BadGate h = (refused 34 (omega arith)).1 h
-  by_rule TooFewWords h = (refused 32 (omega arith)).1 h
-  by_rule UnusableSample h = (refused 35 (omega arith)).1 h
+  by_rule : (r : Result ℕ TraceRefusal) → RuleOf g s lent (numbered r) → outcome g s lent ≡ numbered r
+  by_rule (Ok n) h = (written_is n).1 h
+  by_rule (Err TooManySamples) h = (refused 33 (omega arith)).1 h
+  by_rule (Err BadGate) h = (refused 34 (omega arith)).1 h
+  by_rule (Err TooFewWords) h = (refused 32 (omega arith)).1 h
+  by_rule (Err UnusableSample) h = (refused 35 (omega arith)).1 h
 
   -- a call whose answer's rule holds, and that leaves the words that belong to that answer, keeps the promise
-  pub promised : {r : Traced} {left : List ℕ} → RuleOf g s lent (numbered r) → left ≡ words_after (numbered r) (intervals_of g s) lent → TracePromise g s lent r left
+  pub promised : {r : Result ℕ TraceRefusal} {left : List ℕ} → RuleOf g s lent (numbered r) → left ≡ words_after (numbered r) (intervals_of g s) lent → TracePromise g s lent r left
   promised {r} h e = record { answers = sym (by_rule r h); leaves = rw (by_rule r h) e }
 
-module _ {g : Gate} {s : List Float} {lent : List ℕ} {r : Traced} {left : List ℕ} (p : TracePromise g s lent r left) where
+module _ {g : Gate} {s : List Float} {lent : List ℕ} {r : Result ℕ TraceRefusal} {left : List ℕ} (p : TracePromise g s lent r left) where
   -- a call that is turned away, under whichever number, has written nothing
   pub untouched : (k : ℕ) → numbered r ≡ turned_away k → left ≡ lent
   untouched k e = p.leaves ∙ rw (sym p.answers ∙ e)

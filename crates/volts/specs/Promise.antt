@@ -1,15 +1,15 @@
 -- Definitions.
 -- What the open call from samples to intervals answers and changes: document 01, "From volts to intervals" and "When a
 -- call is turned away".
-use Rattle.std.specs.Prelude.{ℕ, ◌+◌, ◌≡◌, Bool, cond, List, [], ◌∷◌, ◌++◌, eqb, Float, length, drop}
+use Rattle.std.specs.Prelude.{ℕ, ◌+◌, ◌≡◌, Bool, cond, List, [], ◌∷◌, ◌++◌, eqb, Float, Result, Ok, Err, length, drop}
 use Rattle.laws.specs.Meant.{Test, set, unset, below}
 use Rattle.laws.specs.Rules.{Rule, rule, first_rule}
 use Rattle.volts.specs.Judging.{good_gate}
 use Rattle.volts.specs.Levels.{judgements, some_unusable}
 use Rattle.volts.specs.Intervals.{intervals_of}
 use Rattle.volts.specs.declared.Gate.{Gate}
-use Rattle.volts.specs.declared.Traced.{Traced}
-use Rattle.volts.specs.declared.Traced.TheVariants.{Intervals, TooManySamples, BadGate, TooFewWords, UnusableSample}
+use Rattle.volts.specs.declared.TraceRefusal.{TraceRefusal}
+use Rattle.volts.specs.declared.TraceRefusal.TheVariants.{TooManySamples, BadGate, TooFewWords, UnusableSample}
 
 -- what document 01 has a call say: how many intervals it wrote, or the number under which it is turned away
 pub data TraceOutcome : Type 0 where
@@ -17,12 +17,12 @@ pub data TraceOutcome : Type 0 where
   turned_away : ℕ → TraceOutcome
 
 -- document 01's number and value of each case of the answer
-abbrev pub numbered : Traced → TraceOutcome
-numbered (Intervals n) = wrote n
-numbered TooManySamples = turned_away 33
-numbered BadGate = turned_away 34
-numbered TooFewWords = turned_away 32
-numbered UnusableSample = turned_away 35
+abbrev pub numbered : Result ℕ TraceRefusal → TraceOutcome
+numbered (Ok n) = wrote n
+numbered (Err TooManySamples) = turned_away 33
+numbered (Err BadGate) = turned_away 34
+numbered (Err TooFewWords) = turned_away 32
+numbered (Err UnusableSample) = turned_away 35
 
 -- "A trace is at most 16,384 f32 samples"
 abbrev pub most_samples : ℕ
@@ -69,6 +69,6 @@ words_after (turned_away k) intervals lent = lent
 
 -- The promise of the open call: of its gate, its samples and the words lent to it, the answer that it gives and the words as
 -- it leaves them.
-pub record TracePromise (g : Gate) (s : List Float) (lent : List ℕ) (answer : Traced) (left : List ℕ) : Type 0 where
+pub record TracePromise (g : Gate) (s : List Float) (lent : List ℕ) (answer : Result ℕ TraceRefusal) (left : List ℕ) : Type 0 where
   pub answers : numbered answer ≡ outcome g s lent
   pub leaves : left ≡ words_after (outcome g s lent) (intervals_of g s) lent

@@ -4,7 +4,7 @@
 #![tactic(auto)]
 
 ghost use Rattle.std.specs.Prelude.{◌≡◌};
-ghost use Rattle.volts.specs.Judging.{is_finite, good_gate, against, judged};
+ghost use Rattle.volts.specs.Judging.{good_gate, against, judged};
 
 // The longest trace that is taken, in samples.
 pub const MOST_SAMPLES: usize = 16384;
@@ -30,55 +30,39 @@ pub enum Judged {
     Unusable,
 }
 
-// What came of a trace: how many intervals were written, or why none was.
-#[derive(Clone, Copy)]
-pub enum Traced {
-    Intervals(usize),
+// Why a trace is turned away.
+#[derive(Clone, Copy, Debug, PartialEq, Eq)]
+pub enum TraceRefusal {
     TooManySamples,
     BadGate,
     TooFewWords,
     UnusableSample,
 }
 
-// Whether a number of volts is one: neither infinite nor a NaN, which a broken converter can deliver.
-fn finite(volts: f32) -> bool
-    ensures { result ≡ is_finite volts }
-{
-    let infinity = f32::from_bits(0x7f80_0000);
-    if volts < infinity {
-        -infinity < volts
-    } else {
-        false
-    }
-}
-
 // Whether a gate can judge samples: three finite numbers, and space between the passive level and the active one.
+#[tactic(auto, using(crate::proofs::Finiteness::same_finite), unfolding(crate::specs::Judging::good_gate))]
 pub fn good_gate(gate: Gate) -> bool
     ensures { result ≡ good_gate gate }
 {
-    if !finite(gate.offset) {
-        return false;
-    }
-    if !finite(gate.active) {
-        return false;
-    }
-    if !finite(gate.passive) {
-        return false;
-    }
-    gate.passive < gate.active
+    gate.offset.is_finite()
+        && gate.active.is_finite()
+        && gate.passive.is_finite()
+        && gate.passive < gate.active
 }
 
 // What a gate says of one sample. It answers for any gate; whether the gate is a good one is `good_gate`'s to say.
 // A level belongs to its own side: volts exactly at it are active, or passive, already.
+#[tactic(auto, using(crate::proofs::Finiteness::usable, crate::proofs::Finiteness::unusable))]
 pub fn judge(gate: Gate, sample: f32) -> Judged
     ensures { result ≡ judged gate sample }
 {
     // A sample that is no finite number leaves a difference that is none either, so one test serves for both.
     let volts = sample - gate.offset;
-    if !finite(volts) {
-        return Judged::Unusable;
+    if volts.is_finite() {
+        against_levels(gate, volts)
+    } else {
+        Judged::Unusable
     }
-    against_levels(gate, volts)
 }
 
 // What a gate says of volts from which the offset is taken away already. Whether they are a finite number is not asked.
@@ -87,10 +71,10 @@ pub fn against_levels(gate: Gate, volts: f32) -> Judged
     ensures { result ≡ against gate volts }
 {
     if volts >= gate.active {
-        return Judged::Active(volts);
+        Judged::Active(volts)
+    } else if volts <= gate.passive {
+        Judged::Passive(volts)
+    } else {
+        Judged::Between(volts)
     }
-    if volts <= gate.passive {
-        return Judged::Passive(volts);
-    }
-    Judged::Between(volts)
 }
