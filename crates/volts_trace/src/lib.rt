@@ -4,58 +4,43 @@
 
 ghost use Rattle.std.specs.Prelude.{◌≡◌, ◌≤◌, ◌<◌, true, false, not, ◌++◌, length, drop};
 ghost use Rattle.std.specs.Bool.{beq};
+ghost use Rattle.volts.specs.Judging.{judged};
 ghost use Rattle.volts.specs.Levels.{level_after, is_unusable};
 ghost use Rattle.volts.specs.Intervals.{intervals_of};
 ghost use Rattle.volts.specs.Promise.{most_samples, sample_unusable, TracePromise};
 
 use units::{Micros, Place};
-use volts::{Gate, Judged, MOST_SAMPLES, Traced};
+use volts::{Gate, Judged, MOST_SAMPLES, TraceRefusal};
 
-// Whether a judgement says that its sample cannot be used.
-fn unusable(judged: Judged) -> bool
-    ensures { result ≡ is_unusable judged }
+// Whether a sample cannot be used.
+fn unusable(gate: Gate, sample: f32) -> bool
+    ensures { result ≡ is_unusable (judged gate sample) }
 {
-    match judged {
-        Judged::Active(_) => false,
-        Judged::Passive(_) => false,
-        Judged::Between(_) => false,
-        Judged::Unusable => true,
-    }
+    matches!(volts::judge(gate, sample), Judged::Unusable)
 }
 
-// Whether a line that was passive is active after a judged sample.
-fn rises(judged: Judged) -> bool
-    ensures { result ≡ level_after false judged }
+// Whether a line is active after a judged sample, by whether it was active before.
+fn level_after<const ACTIVE: bool>(judged: Judged) -> bool
+    ensures { result ≡ level_after ACTIVE judged }
 {
     match judged {
         Judged::Active(_) => true,
         Judged::Passive(_) => false,
-        Judged::Between(_) => false,
-        Judged::Unusable => false,
-    }
-}
-
-// Whether a line that was active is active after a judged sample.
-fn lasts(judged: Judged) -> bool
-    ensures { result ≡ level_after true judged }
-{
-    match judged {
-        Judged::Active(_) => true,
-        Judged::Passive(_) => false,
-        Judged::Between(_) => true,
-        Judged::Unusable => true,
+        Judged::Between(_) | Judged::Unusable => ACTIVE,
     }
 }
 
 // Whether a judged sample changes the level of the line. Each former level has a test of its own, which compiles to
 // comparisons of the volts and not to a choice between four judgements.
+#[tactic(auto, using(crate::proofs::Changing::changed_active, crate::proofs::Changing::changed_passive))]
 fn changes(active: bool, judged: Judged) -> bool
     ensures { result ≡ not (beq (level_after active judged) active) }
 {
     if active {
-        return !lasts(judged);
+        !level_after::<true>(judged)
+    } else {
+        level_after::<false>(judged)
     }
-    rises(judged)
 }
 
 // Whether any sample of a trace cannot be used. This pass comes before the first word is written, so that a trace that is
@@ -63,14 +48,7 @@ fn changes(active: bool, judged: Judged) -> bool
 fn some_unusable(gate: Gate, samples: &[f32]) -> bool
     ensures { result ≡ sample_unusable gate samples.now }
 {
-    let mut i = 0usize;
-    while i < samples.len() {
-        if unusable(volts::judge(gate, samples[i])) {
-            return true;
-        }
-        i += 1;
-    }
-    false
+    samples.iter().any(|sample| unusable(gate, *sample))
 }
 
 // Writes the intervals of a trace to the front of the lent words and answers how many there are. The line starts passive,
@@ -83,27 +61,20 @@ fn write_intervals(gate: Gate, samples: &[f32], words: &mut [u32]) -> usize
     let mut next = Place(0);
     let mut width = Micros(0);
     let mut active = false;
-    let mut i = 0usize;
-    while i < samples.len() {
-        let judged = volts::against_levels(gate, samples[i] - gate.offset);
-        let lasted = width.0;
+    for sample in samples {
+        let judged = volts::against_levels(gate, *sample - gate.offset);
         let turns = changes(active, judged);
         if turns {
-            let at = next.0;
-            words[at] = lasted;
-            let after = at + 1;
-            next = Place(after);
+            words[next.0] = width.0;
+            next = Place(next.0 + 1);
             width = Micros(1);
             active = !active;
         } else {
-            let longer = lasted + 1;
-            width = Micros(longer);
+            width = Micros(width.0 + 1);
         }
-        i += 1;
     }
-    let at = next.0;
-    words[at] = width.0;
-    at + 1
+    words[next.0] = width.0;
+    next.0 + 1
 }
 
 // The intervals of a trace: how long the line stays passive, then active, then passive again, in microseconds, from the
@@ -111,24 +82,23 @@ fn write_intervals(gate: Gate, samples: &[f32], words: &mut [u32]) -> usize
 // the answer is how many were written. A trace that is too long, a gate that cannot judge, too few lent words or a sample
 // that cannot be used is turned away, in this order, and then no word is changed.
 #[tactic(auto, using(crate::proofs::Exits::too_many, crate::proofs::Exits::bad_gate, crate::proofs::Exits::few_words, crate::proofs::Exits::some_unusable, crate::proofs::Exits::nothing, crate::proofs::Exits::counted))]
-pub fn intervals(gate: Gate, samples: &[f32], words: &mut [u32]) -> Traced
+pub fn intervals(gate: Gate, samples: &[f32], words: &mut [u32]) -> Result<usize, TraceRefusal>
     ensures { TracePromise gate samples.now words.old result words.new }
 {
     if samples.len() > MOST_SAMPLES {
-        return Traced::TooManySamples;
+        return Err(TraceRefusal::TooManySamples);
     }
     if !volts::good_gate(gate) {
-        return Traced::BadGate;
+        return Err(TraceRefusal::BadGate);
     }
     if words.len() <= samples.len() {
-        return Traced::TooFewWords;
+        return Err(TraceRefusal::TooFewWords);
     }
     if some_unusable(gate, samples) {
-        return Traced::UnusableSample;
+        return Err(TraceRefusal::UnusableSample);
     }
-    if samples.len() == 0 {
-        return Traced::Intervals(0);
+    if samples.is_empty() {
+        return Ok(0);
     }
-    let count = write_intervals(gate, samples, words);
-    Traced::Intervals(count)
+    Ok(write_intervals(gate, samples, words))
 }
