@@ -62,7 +62,7 @@ pub extern "C" fn j1850_intervals(gate: Gate, samples: &[f32], words: &mut [u32]
     ensures value { result ≡ traced_as (outcome gate samples.now words.old) }
     ensures words_after { words.new ≡ traced_words (outcome gate samples.now words.old) (intervals_of gate samples.now) words.old }
 {
-    c_frame_answers::traced(volts_trace::intervals(gate, samples, words))
+    volts_trace::intervals(gate, samples, words).into()
 }
 
 // Writes the frame of a message, at a clock, into lent words. A kind that is none of the three is turned away as a bad

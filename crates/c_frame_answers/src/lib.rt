@@ -2,8 +2,8 @@
 // numbers. The number of what came of a call stands first: document 01's, or one of the desk's own, 61 and 62.
 #![tactic(auto)]
 
-ghost use Rattle.std.specs.Prelude.{◌≡◌};
-ghost use Rattle.volts.specs.Promise.{numbered};
+ghost use Rattle.std.specs.Prelude.{◌≡◌, Err};
+ghost use Rattle.volts.specs.Promise.{numbered, turned_away};
 ghost use Rattle.frame.specs.ReadPromise.{told, bare as bare_told};
 ghost use Rattle.frame.specs.WritePromise.{counted, counts};
 ghost use Rattle.desk_text.specs.Promise.{answered_told};
@@ -15,7 +15,7 @@ use frame_numbers::{
     BAD_CLOCK, BAD_MESSAGE, DONE, FEW_LENT, PAST_RECORDING, QUIET, UNFINISHED, WITHOUT,
 };
 use symbol::Clock;
-use volts::Traced;
+use volts::TraceRefusal;
 
 // The check byte of some bytes.
 #[repr(C)]
@@ -82,31 +82,33 @@ const LITTLE_LENT: u32 = 61;
 
 const BAD_INPUT: u32 = 62;
 
-// What came of a trace.
-pub fn traced(answer: Traced) -> Counted
-    ensures { result ≡ traced_as (numbered answer) }
+// Document 01's number of why a trace is turned away.
+fn trace_refused(refusal: TraceRefusal) -> u32
+    ensures { numbered (Err refusal) ≡ turned_away result }
 {
-    match answer {
-        Traced::Intervals(count) => Counted {
-            number: DONE,
-            count,
-        },
-        Traced::TooManySamples => Counted {
-            number: MANY_SAMPLES,
-            count: 0,
-        },
-        Traced::BadGate => Counted {
-            number: BAD_GATE,
-            count: 0,
-        },
-        Traced::TooFewWords => Counted {
-            number: FEW_LENT,
-            count: 0,
-        },
-        Traced::UnusableSample => Counted {
-            number: UNUSABLE,
-            count: 0,
-        },
+    match refusal {
+        TraceRefusal::TooManySamples => MANY_SAMPLES,
+        TraceRefusal::BadGate => BAD_GATE,
+        TraceRefusal::TooFewWords => FEW_LENT,
+        TraceRefusal::UnusableSample => UNUSABLE,
+    }
+}
+
+// What came of a trace.
+impl From<Result<usize, TraceRefusal>> for Counted {
+    ghost from_gives = { λ answer counted. counted ≡ traced_as (numbered answer) };
+
+    fn from(answer: Result<usize, TraceRefusal>) -> Counted {
+        match answer {
+            Ok(count) => Counted {
+                number: DONE,
+                count,
+            },
+            Err(refusal) => Counted {
+                number: trace_refused(refusal),
+                count: 0,
+            },
+        }
     }
 }
 
