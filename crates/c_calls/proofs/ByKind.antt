@@ -3,12 +3,13 @@ use Prim.Native.Nat.{ℕ, ◌≤◌, ◌<◌}
 use mathlib.Core.Path.{◌≡◌, refl, ap}
 use mathlib.Core.Bool.{Bool, true, false, cond, not}
 use mathlib.Core.List.{List}
+use Rattle.std.specs.Prelude.{Result}
 use lib.ListN.{length}
 use borrow.Author.Tests.{lt-ltb, le-ltb}
 use Rattle.symbol.specs.Clocks.{good_of}
 use Rattle.symbol.specs.declared.Clock.{Clock}
 use Rattle.frame.specs.declared.Response.{Response}
-use Rattle.frame.specs.declared.Writing.{Writing}
+use Rattle.frame.specs.declared.WriteRefusal.{WriteRefusal}
 use Rattle.frame.specs.Writing.{turned_away, writing}
 use Rattle.frame.specs.WritePromise.{counted, counts, words_after, WritePromise}
 use Rattle.frame_numbers.specs.Numbers.{kind_of}
@@ -25,7 +26,7 @@ module _ (c : Clock) (main : List ℕ) (kind : ℕ) (rs : List ℕ) (lent : ℕ)
   a_kind h = rw (le-ltb 2 kind h)
 
 -- What the room below promises of one of the three kinds is what is promised here.
-pub written_as : (c : Clock) (main : List ℕ) (kind : ℕ) (rs entry exit : List ℕ) (answer : Writing) (asked : Response)
+pub written_as : (c : Clock) (main : List ℕ) (kind : ℕ) (rs entry exit : List ℕ) (answer : Result ℕ WriteRefusal) (asked : Response)
     → asked ≡ kind_of kind → kind ≤ 2 → WritePromise c main asked rs entry exit answer
     → (counted_as (counted answer) ≡ counted_as (counts (sheet_of c main kind rs (length entry)))) × (exit ≡ words_after (sheet_of c main kind rs (length entry)) entry)
 written_as c main kind rs entry exit answer asked ek h p =

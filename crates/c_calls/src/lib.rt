@@ -82,13 +82,8 @@ pub extern "C" fn j1850_write(
     if kind > CHECKED {
         return c_frame_answers::no_such_kind(clock);
     }
-    c_frame_answers::written(frame_write::write(
-        clock,
-        main,
-        frame_numbers::kind_of(kind),
-        response,
-        words,
-    ))
+    let kind = frame_numbers::kind_of(kind);
+    Counted::from(frame_write::write(clock, main, kind, response, words))
 }
 
 // Reads the first frame from a position of a recording on; its bytes go into lent bytes, at least 12.

@@ -5,12 +5,12 @@
 ghost use Rattle.std.specs.Prelude.{◌≡◌, Err};
 ghost use Rattle.volts.specs.Promise.{numbered, turned_away};
 ghost use Rattle.frame.specs.ReadPromise.{told, bare as bare_told};
-ghost use Rattle.frame.specs.WritePromise.{counted, counts};
+ghost use Rattle.frame.specs.WritePromise.{refusal_number, counted, counts};
 ghost use Rattle.desk_text.specs.Promise.{answered_told};
 ghost use Rattle.c_frame_answers.specs.Answers.{traced_as, no_such_kind, counted_as, read_as, desk_as};
 
 use desk_text::Answered;
-use frame::{ReadRefusal, Reading, Writing};
+use frame::{ReadRefusal, Reading, WriteRefusal};
 use frame_numbers::{
     BAD_CLOCK, BAD_MESSAGE, DONE, FEW_LENT, PAST_RECORDING, QUIET, UNFINISHED, WITHOUT,
 };
@@ -116,40 +116,40 @@ impl From<Result<usize, TraceRefusal>> for Counted {
 pub fn no_such_kind(clock: Clock) -> Counted
     ensures { result ≡ counted_as (counts (no_such_kind clock)) }
 {
-    if symbol::good_clock(clock) {
-        Counted {
-            number: BAD_MESSAGE,
-            count: 0,
-        }
+    let refusal = if symbol::good_clock(clock) {
+        WriteRefusal::BadMessage
     } else {
-        Counted {
-            number: BAD_CLOCK,
-            count: 0,
-        }
+        WriteRefusal::BadClock
+    };
+    Counted::from(Err(refusal))
+}
+
+// Document 01's number of a refusal to write.
+fn refusal_number(refusal: WriteRefusal) -> u32
+    ensures { result ≡ refusal_number refusal }
+{
+    match refusal {
+        WriteRefusal::BadClock => BAD_CLOCK,
+        WriteRefusal::BadMessage => BAD_MESSAGE,
+        WriteRefusal::FewLentWords => FEW_LENT,
     }
 }
 
 // What came of a message.
-pub fn written(answer: Writing) -> Counted
-    ensures { result ≡ counted_as (counted answer) }
-{
-    match answer {
-        Writing::Words(count) => Counted {
-            number: DONE,
-            count,
-        },
-        Writing::BadClock => Counted {
-            number: BAD_CLOCK,
-            count: 0,
-        },
-        Writing::BadMessage => Counted {
-            number: BAD_MESSAGE,
-            count: 0,
-        },
-        Writing::FewLentWords => Counted {
-            number: FEW_LENT,
-            count: 0,
-        },
+impl From<Result<usize, WriteRefusal>> for Counted {
+    ghost from_gives = { λ answer told. told ≡ counted_as (counted answer) };
+
+    fn from(answer: Result<usize, WriteRefusal>) -> Counted {
+        match answer {
+            Ok(count) => Counted {
+                number: DONE,
+                count,
+            },
+            Err(refusal) => Counted {
+                number: refusal_number(refusal),
+                count: 0,
+            },
+        }
     }
 }
 

@@ -15,8 +15,7 @@ use Rattle.frame.specs.declared.Response.TheVariants.{Without, Plain, Checked}
 use Rattle.frame.specs.declared.Reading.{Reading}
 use Rattle.frame.specs.declared.ReadRefusal.{ReadRefusal}
 use Rattle.frame.specs.declared.Reading.TheVariants.{Frame}
-use Rattle.frame.specs.declared.Writing.{Writing}
-use Rattle.frame.specs.declared.Writing.TheVariants.{Words}
+use Rattle.frame.specs.declared.WriteRefusal.{WriteRefusal}
 use Rattle.frame.specs.Line.{single}
 use Rattle.frame.specs.Faults.{most_bytes}
 use Rattle.frame.specs.Reading.{Good, Outcome, good, frame_at, reading}
@@ -39,13 +38,13 @@ use Rattle.frame.specs.WriteStated.{WrittenAgain, main_taken, response_taken}
 -- frame in them, are read from the start with bytes enough lent. Both calls answer: the first with the frame's words, the second
 -- with a frame of the message's own lengths, kind and places, whose bytes stand first in the lent bytes.
 pub written_then_read : (c : Clock) (main : List ℕ) (kind : Response) (rs : List ℕ) → good_of c ≡ true → bad_message main kind rs ≡ false → Bytes main → Bytes rs
-    → (entry exit : List ℕ) (wrote : Writing) → most_words ≤ length entry → WritePromise c main kind rs entry exit wrote
+    → (entry exit : List ℕ) (wrote : Result ℕ WriteRefusal) → most_words ≤ length entry → WritePromise c main kind rs entry exit wrote
     → (lent left : List ℕ) (answer : Result Reading ReadRefusal) → most_bytes ≤ length lent → ReadPromise exit 0 lent left answer
-    → (wrote ≡ Words (length (frame_words c main kind rs)))
+    → (wrote ≡ Ok (length (frame_words c main kind rs)))
     × (told answer ≡ tells (good (frame_sent main kind rs 0 (length (frame_words c main kind rs) - 1))))
     × (left ≡ (with_check main ++ response_sent kind rs) ++ drop (length (with_check main ++ response_sent kind rs)) lent)
 written_then_read c main kind rs g b mb rb entry exit wrote words_enough w lent left answer bytes_enough r = (
-  counted_once wrote (Words (length (frame_words c main kind rs))) (w.counts_it ∙ ap counts sheet),
+  counted_once wrote (Ok (length (frame_words c main kind rs))) (w.counts_it ∙ ap counts sheet),
   r.tells_it ∙ ap tells is,
   r.lends_it ∙ ap (λ (x : Outcome). lent_after x lent) is,
 )
@@ -115,12 +114,12 @@ module _ (lengths : Lengths) (main response rest : List ℕ) (m : lengths.main �
 -- clock: the words are the recording's own intervals from the opening to the closing end, at nominal widths.
 pub read_then_write : (ws : List ℕ) (p : ℕ) (lent left : List ℕ) (lengths : Lengths) (kind : Response) (o k : Place)
     → ReadPromise ws p lent left (Ok (Frame lengths kind o k))
-    → (entry exit : List ℕ) (answer : Writing)
+    → (entry exit : List ℕ) (answer : Result ℕ WriteRefusal)
     → WritePromise nominal_clock (main_taken lengths left) kind (response_taken kind lengths left) entry exit answer → most_words ≤ length entry
-    → (answer ≡ Words (k.0 - o.0 + 1))
+    → (answer ≡ Ok (k.0 - o.0 + 1))
     × (exit ≡ nominal_intervals ws o.0 k.0 ++ drop (k.0 - o.0 + 1) entry)
 read_then_write ws p lent left lengths kind o k q entry exit answer w enough = (
-  counted_once answer (Words (k.0 - o.0 + 1)) (w.counts_it ∙ ap counts sheet ∙ ap (λ (n : ℕ). counted (Words n)) many),
+  counted_once answer (Ok (k.0 - o.0 + 1)) (w.counts_it ∙ ap counts sheet ∙ ap (λ (n : ℕ). counted (Ok n)) many),
   w.lends_it ∙ ap (λ (s : Sheet). words_after s entry) sheet ∙ ap (λ (n : ℕ). nominal_intervals ws o.0 k.0 ++ drop n entry) many,
 )
   where

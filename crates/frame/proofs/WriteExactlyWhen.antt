@@ -1,7 +1,7 @@
 -- Laws.
 -- When writing gives which answer: each refusal exactly when document 01 says so, in its order 36, 37, 32, with the words as
 -- they were, and the words of the frame exactly when no rule holds.
-use Rattle.std.specs.Prelude.{ℕ, ◌≤◌, ◌<◌, ◌≡◌, refl, Bool, true, false, cond, List, ◌↔◌, eqb, length}
+use Rattle.std.specs.Prelude.{ℕ, ◌≤◌, ◌<◌, ◌≡◌, refl, Bool, true, false, cond, Result, List, ◌↔◌, eqb, length}
 use Rattle.std.proofs.Math.Path.{sym}
 use Rattle.std.proofs.Common.{ap, ◌∙◌, arith}
 use borrow.Author.Tests.{eqb-true, lt-ltb, le-ltb}
@@ -10,7 +10,7 @@ use Rattle.laws.specs.RuleLaws.{none_is, refuses}
 use Rattle.symbol.specs.declared.Clock.{Clock}
 use Rattle.symbol.specs.Clocks.{good_of}
 use Rattle.frame.specs.declared.Response.{Response}
-use Rattle.frame.specs.declared.Writing.{Writing}
+use Rattle.frame.specs.declared.WriteRefusal.{WriteRefusal}
 use Rattle.frame.specs.Writing.{most_words, frame_words, bad_message, Sheet, words, turned_away, write_rules, sheet_by, writing}
 use Rattle.frame.specs.WritePromise.{Count, counted, counts, words_after, WritePromise}
 
@@ -47,7 +47,7 @@ unwritten : (x : Sheet) (entry : List ℕ) → 0 < (counts x).number → words_a
 unwritten (words ws) entry h = absurd (omega arith)
 unwritten (turned_away n) entry h = refl
 
-module _ {c : Clock} {main : List ℕ} {kind : Response} {rs entry exit : List ℕ} {r : Writing} (q : WritePromise c main kind rs entry exit r) where
+module _ {c : Clock} {main : List ℕ} {kind : Response} {rs entry exit : List ℕ} {r : Result ℕ WriteRefusal} (q : WritePromise c main kind rs entry exit r) where
   its_number : (counted r).number ≡ (counts (writing c main kind rs (length entry))).number
   its_number = ap (λ (t : Count). t.number) q.counts_it
 

@@ -77,10 +77,9 @@ pub enum ReadRefusal {
     FewLentBytes,
 }
 
-// What writing a message answers: the number of words written, or a refusal, which changes nothing.
-#[derive(Clone, Copy)]
-pub enum Writing {
-    Words(usize),
+// Why a message is not written. A refusal changes nothing.
+#[derive(Clone, Copy, Debug, PartialEq, Eq)]
+pub enum WriteRefusal {
     BadClock,
     BadMessage,
     FewLentWords,

@@ -8,7 +8,7 @@ ghost use Rattle.frame.specs.Bits.{bits_of_byte};
 ghost use Rattle.frame.specs.Writing.{bit_widths, byte_widths, response_widths, frame_words};
 ghost use Rattle.frame.specs.WritePromise.{WritePromise};
 
-use frame::{Response, Writing};
+use frame::{Response, WriteRefusal};
 use symbol::{Clock, END_SENT};
 
 // Writes the frame of a message, at a clock, into lent words. The bytes are given without check bytes: they are added.
@@ -19,19 +19,19 @@ pub fn write(
     kind: Response,
     response: &[u8],
     lent: &mut [u32],
-) -> Writing
+) -> Result<usize, WriteRefusal>
     ensures { WritePromise clock main.now kind response.now lent.old lent.new result }
 {
     if !symbol::good_clock(clock) {
-        return Writing::BadClock;
+        return Err(WriteRefusal::BadClock);
     }
     if frame_words::bad_message(main, kind, response) {
-        return Writing::BadMessage;
+        return Err(WriteRefusal::BadMessage);
     }
     if frame_words::few_words(lent.len()) {
-        return Writing::FewLentWords;
+        return Err(WriteRefusal::FewLentWords);
     }
-    Writing::Words(put_frame(clock, main, kind, response, lent))
+    Ok(put_frame(clock, main, kind, response, lent))
 }
 
 // The whole frame: the opening, the SOF, the main part with its check byte, the response, the closing end.

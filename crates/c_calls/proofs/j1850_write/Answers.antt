@@ -7,10 +7,10 @@ pub returns-clause-value : goal.returns-clause-value
 returns-clause-value c =
     let a = c.args in
     let few : a.kind ≤ 2 = omega arith in
-    c.written.ensures ∙ (written_as a.clock a.main.now a.kind a.response.now a.words.now c.write.new.lent c.write.result c.kind_of.result c.kind_of.ensures few c.write.ensures).0
+    c.from.ensures ∙ (written_as a.clock a.main.now a.kind a.response.now a.words.now c.write.new.lent c.write.result c.kind_of-kind.result c.kind_of-kind.ensures few c.write.ensures).0
 
 pub returns-clause-words_after : goal.returns-clause-words_after
 returns-clause-words_after c =
     let a = c.args in
     let few : a.kind ≤ 2 = omega arith in
-    (written_as a.clock a.main.now a.kind a.response.now a.words.now c.write.new.lent c.write.result c.kind_of.result c.kind_of.ensures few c.write.ensures).1
+    (written_as a.clock a.main.now a.kind a.response.now a.words.now c.write.new.lent c.write.result c.kind_of-kind.result c.kind_of-kind.ensures few c.write.ensures).1
