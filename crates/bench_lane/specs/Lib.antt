@@ -1,4 +1,2 @@
 -- Definitions.
 pub mod Lane
--- Laws.
-pub mod LaneLaws

@@ -1,28 +1,26 @@
 -- Laws.
 -- Laws of contending: it is settled; a row of sound stations is taken as it is; and how the code comes to it.
-use Rattle.std.specs.Prelude.{ℕ, zero, suc, ◌≤◌, ◌<◌, min, ◌≡◌, refl, Bool, true, cond, not, List, [], ◌∷◌, map, leb, length, get_or, replicate}
-use Rattle.std.proofs.Common.{sym, subst, ap₂, ◌∙◌, arith, leb-true, le-ltb, lt-ltb}
-use Rattle.std.proofs.Math.Path.{ap}
-use Rattle.std.proofs.Math.Bool.{false}
+use Rattle.std.specs.Prelude.{ℕ, zero, suc, ◌-◌, ◌≤◌, ◌<◌, min, ◌≡◌, refl, Bool, true, false, cond, not, List, [], ◌∷◌, ◌++◌, map, leb, length, take, replicate}
+use Rattle.std.proofs.Common.{sym, ap, ap₂, ◌∙◌, arith, leb-true, le-ltb, lt-ltb}
 use Rattle.std.proofs.lemmas.List.Edits.{sets}
 use Rattle.laws.specs.Settled.{settled}
 use Rattle.laws.specs.Tests.{both}
 use Rattle.symbol.specs.Clocks.{good_of}
 use Rattle.frame.specs.Writing.{most_words}
 use Rattle.bench.specs.declared.Station.{Station}
+use Rattle.bench.specs.declared.Fared.TheVariants.{Idle}
 use Rattle.bench.specs.declared.Verdict.{Verdict}
-use Rattle.bench.specs.Stations.{most_stations, most_stored, sound, blank}
-use Rattle.bench.specs.Course.{Seat, Course, asked, widths_of, lasts, on_line, heard, nobody_asks, most_bits, over, bit_then, play, fared_at}
+use Rattle.bench.specs.Stations.{most_stations, most_stored, sound}
+use Rattle.bench.specs.Course.{Seat, out, Course, asked, widths_of, lasts, on_line, heard, nobody_asks, most_bits, over, bit_then, play, fared_at}
 use Rattle.bench.specs.Round.{entry_of, seat_of, verdict_of}
 use Rattle.bench.specs.Calls.{all_sound}
+use Rattle.bench_lane.specs.declared.lane.Lane.{Lane}
 use Rattle.bench_line.specs.declared.Contended.{Contended}
-use Rattle.bench_line.specs.Lanes.{Lanes, Silent, lanes_of}
-use Rattle.bench_line.specs.Seats.{LanesOk}
+use Rattle.bench_line.specs.Lanes.{seats_at, fared_of, verdict_at}
 use Rattle.bench_line.specs.Sending.{course_of, SendsBits}
-use Rattle.bench_line.specs.Entries.{Holders, width_of, clipped_count, clipped_frame, lanes_in, verdicts_at}
-use Rattle.bench_line.specs.EntryLaws.{count_none}
+use Rattle.bench_line.specs.Entries.{Holders, place_of}
+use Rattle.bench_line.specs.EntryLaws.{idle_rest}
 use Rattle.bench_line.specs.Stated.{clipped}
-use Rattle.bench_line.specs.Starting.{at_map, start_ok, start_seats}
 use Rattle.bench_line.specs.Contending.{course_on, course_lent, ContendedIn, ContendedBy, nobody_sent}
 
 -- No second answer and no other words are what contending comes to.
@@ -68,6 +66,46 @@ pub course_few : (row : List Station) → length (course_on row).widths ≤ most
 unfolding course_on
 course_few row = few most_bits false 1 (map seat_of (map entry_of row))
 
+-- ## Idle places at the end of a row
+
+-- they ask for nothing
+asked_idle : (seats : List Seat) (m : ℕ) → asked (seats ++ replicate m (out Idle)) ≡ asked seats
+unfolding asked
+asked_idle [] zero = refl
+asked_idle [] (suc m) = asked_idle [] m
+asked_idle (s ∷ seats) m = rw (asked_idle seats m)
+
+-- they hear nothing
+heard_idle : (k : ℕ) (b : Bool) (seats : List Seat) (m : ℕ) → map (heard k b) (seats ++ replicate m (out Idle)) ≡ map (heard k b) seats ++ replicate m (out Idle)
+heard_idle k b [] zero = refl
+heard_idle k b [] (suc m) = ap (λ (r : List Seat). out Idle ∷ r) (heard_idle k b [] m)
+heard_idle k b (s ∷ seats) m = ap (λ (r : List Seat). heard k b s ∷ r) (heard_idle k b seats m)
+
+-- and the course is the same but for them
+with_idle : ℕ → Course → Course
+with_idle m c = record { widths = c.widths; seats = c.seats ++ replicate m (out Idle) }
+
+play_idle : (n : ℕ) (active : Bool) (k : ℕ) (seats : List Seat) (m : ℕ) → play n active k (seats ++ replicate m (out Idle)) ≡ with_idle m (play n active k seats)
+unfolding play with_idle
+play_idle zero active k seats m = refl
+play_idle (suc n) active k seats m = rw (asked_idle seats m) (go (nobody_asks (asked seats)) (play_idle n (not active) (suc k) (map (heard k (on_line active (lasts active (widths_of (asked seats))))) seats) m))
+  where
+    w : ℕ
+    w = lasts active (widths_of (asked seats))
+
+    rest : Course
+    rest = play n (not active) (suc k) (map (heard k (on_line active w)) seats)
+
+    go : (t : Bool) → play n (not active) (suc k) (map (heard k (on_line active w)) seats ++ replicate m (out Idle)) ≡ with_idle m rest → cond t (over (seats ++ replicate m (out Idle))) (bit_then w (play n (not active) (suc k) (map (heard k (on_line active w)) (seats ++ replicate m (out Idle)))))
+        ≡ with_idle m (cond t (over seats) (bit_then w rest))
+    go true e = refl
+    go false e = rw (heard_idle k (on_line active w) seats m, e)
+
+fares_idle : (seats : List Seat) (m : ℕ) → map verdict_of (map fared_at (seats ++ replicate m (out Idle))) ≡ map verdict_of (map fared_at seats) ++ replicate m (verdict_of Idle)
+fares_idle [] zero = refl
+fares_idle [] (suc m) = ap (λ (r : List Verdict). verdict_of Idle ∷ r) (fares_idle [] m)
+fares_idle (s ∷ seats) m = ap (λ (r : List Verdict). verdict_of (fared_at s) ∷ r) (fares_idle seats m)
+
 -- ## The code
 
 -- Too few words: nobody sends.
@@ -80,35 +118,34 @@ pub all_send : (row : List Station) (lent left : List ℕ) → most_words ≤ le
 unfolding course_lent
 all_send row lent left h r p = rw (le-ltb (length lent) most_words h) p
 
--- The arrays that stand for the lanes of a row, and what is sent over them.
-module _ (row : List Station) (n : length row ≡ most_stations) (counts : List ℕ) (frames : List (List ℕ)) (shorts longs : List ℕ)
-    (a : counts ≡ map clipped_count row) (b : frames ≡ map clipped_frame row) (c : shorts ≡ map (width_of false) row) (d : longs ≡ map (width_of true) row) where
-  arrays : lanes_of counts frames shorts longs ≡ lanes_in row
-  arrays = cc
+-- What is sent over the lanes of the stations up to the last holder are the bits of the round.
+module _ (row : List Station) (n : length row ≡ most_stations) (places : ℕ) (s : Holders row places) (ls : List Lane) (begun : seats_at false 0 ls ≡ map place_of (take places row)) where
+  same : course_on (map clipped row) ≡ with_idle (most_stations - places) (course_of ls)
+  unfolding course_on with_idle
+  same =
+      ap (play most_bits false 1) (three row)
+      ∙ ap (play most_bits false 1) (idle_rest row places (λ i lo hi. s.none i lo (omega arith)))
+      ∙ ap (λ (k : ℕ). play most_bits false 1 (map place_of (take places row) ++ replicate (k - places) (out Idle))) n
+      ∙ play_idle most_bits false 1 (map place_of (take places row)) (most_stations - places)
+      ∙ ap (λ (x : List Seat). with_idle (most_stations - places) (play most_bits false 1 x)) (sym begun)
+    where
+      three : (l : List Station) → map seat_of (map entry_of (map clipped l)) ≡ map place_of l
+      three [] = refl
+      three (s ∷ l) = ap (λ (r : List Seat). place_of s ∷ r) (three l)
 
-  -- They are as the loop over the bits asks them to be ..
-  pub ready : LanesOk (lanes_of counts frames shorts longs)
-  ready = subst LanesOk (sym arrays) (start_ok row n)
-
-  -- .. past the last holder nobody has a bit to send ..
-  pub silent : (places : ℕ) → Holders row places → Silent counts places
-  silent places s =
+  pub contended : (ls' : List Lane) (lent left : List ℕ) (bits : ℕ) → SendsBits ls ls' lent left bits → (verdicts : List Verdict)
+      → verdicts ≡ map verdict_at ls' ++ replicate (most_stations - places) (verdict_of Idle) → ContendedIn (course_on (map clipped row)) lent left (record { bits = bits; verdicts = verdicts })
+  unfolding with_idle
+  contended ls' lent left bits t verdicts v =
       record {
-        few = s.few;
-        none = λ i lo hi. ap (λ (x : List ℕ). get_or x i 0) a ∙ at_map clipped_count row i 0 (omega arith) ∙ sym (count_none (get_or row i blank) (s.none i lo hi));
+        counts = t.counts_them ∙ sym (ap (λ (x : Course). length x.widths) same);
+        fares =
+            v ∙ ap (λ (r : List Verdict). r ++ replicate (most_stations - places) (verdict_of Idle)) (two ls' ∙ ap (map verdict_of) t.fares_so)
+            ∙ sym (fares_idle (course_of ls).seats (most_stations - places))
+            ∙ sym (ap (λ (x : Course). map verdict_of (map fared_at x.seats)) same);
+        leaves = t.writes_them ∙ sym (ap (λ (x : Course). sets lent 2 x.widths) same);
       }
-
-  same : course_of (lanes_in row) (replicate most_stations 0) ≡ course_on (map clipped row)
-  unfolding course_on
-  same = ap (play most_bits false 1) (start_seats row n)
-
-  -- .. and what is sent over them are the bits of the round.
-  pub contended : (lost lent left : List ℕ) (bits : ℕ) → SendsBits (lanes_of counts frames shorts longs) (replicate most_stations 0) lost lent left bits
-      → (verdicts : List Verdict) → verdicts ≡ verdicts_at counts lost → ContendedIn (course_on (map clipped row)) lent left (record { bits = bits; verdicts = verdicts })
-  contended lost lent left bits s verdicts v =
-      let t : SendsBits (lanes_in row) (replicate most_stations 0) lost lent left bits = subst (λ (l : Lanes). SendsBits l (replicate most_stations 0) lost lent left bits) arrays s in
-      record {
-        counts = t.counts_them ∙ ap (λ (x : Course). length x.widths) same;
-        fares = v ∙ ap (λ (x : List ℕ). verdicts_at x lost) a ∙ ap (map verdict_of) (t.fares_so ∙ ap (λ (x : Course). map fared_at x.seats) same);
-        leaves = t.writes_them ∙ ap (λ (x : Course). sets lent 2 x.widths) same;
-      }
+    where
+      two : (ls : List Lane) → map verdict_at ls ≡ map verdict_of (map fared_of ls)
+      two [] = refl
+      two (l ∷ ls) = ap (λ (r : List Verdict). verdict_at l ∷ r) (two ls)

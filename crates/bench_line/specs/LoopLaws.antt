@@ -1,213 +1,140 @@
 -- Laws.
 -- The loops over the lanes: what they have come to, and one place more.
-use Prim.Native.Nat.{ℕ, zero, suc, ◌+◌, ◌-◌, ◌/◌, ◌≤◌, ◌<◌, min}
-use Rattle.std.specs.Prelude.{◌≡◌, Bool, false, cond, not, ◌⊎◌, ltb, length, drop}
-use Rattle.std.proofs.Math.Path.{refl, sym, ap}
-use Rattle.std.proofs.Common.{ap₂, ◌∙◌, inl, inr, zero-add, le-ltb, lt-ltb}
-use mathlib.Core.List.{List, [], ◌∷◌}
-use native.Mathlib.Omega.{arith}
-use Rattle.std.proofs.Math.ListN.{get_or, set}
-use Rattle.std.proofs.lemmas.List.{set-get_or}
-use Rattle.laws.specs.Tests.{up_to}
-use Rattle.bench.specs.Stations.{most_stations, most_stored}
-use Rattle.bench.specs.Course.{most_bits}
+use Rattle.std.specs.Prelude.{ℕ, suc, ◌+◌, ◌-◌, ◌*◌, ◌≤◌, ◌<◌, min, max, ◌≡◌, refl, Bool, true, false, not, List, [], ◌∷◌, ◌++◌, map, length, take, drop, get_or, set, replicate, Option, None, Some}
+use Rattle.std.proofs.Common.{sym, ap, ap₂, ◌∙◌, subst, arith, append_assoc, append-nil, add-one, take_all}
+use Rattle.std.proofs.lemmas.List.{map-append, length-set, map_more, take_more_set, drop-set-lt, drop_more, drop-replicate, length-map, length-take-le}
+use Rattle.std.proofs.Math.Seq.{set-append_seam}
+use Rattle.bench.specs.Course.{Pulse, Seat, out, on, asks, asked, widths_of, shortest, longest, heard}
+use Rattle.bench_lane.specs.declared.lane.Lane.{Lane}
 use Rattle.bench_lane.specs.declared.Ask.{Ask}
-use Rattle.bench_lane.specs.declared.Ask.TheVariants.{Out}
-use Rattle.bench_lane.specs.declared.LineAsk.{LineAsk}
-use Rattle.bench_lane.specs.Lane.{lane_of, ask_of, lost_by, taken_in}
-use Rattle.bench_lane.specs.LaneLaws.{ended_same, out_empty}
-use Rattle.loops.specs.Scan.{from, from_length, from_same, from_get_d, fill_start, fold_start, fold_more, fold_all, filled, fill_ahead, fill_more, fill_all}
-use Rattle.bench_line.specs.Lanes.{Lanes, Silent, lane_at, asks_at, all_asked, lost_all, Heard}
-use Rattle.bench_line.specs.Seats.{LaneOk}
+use Rattle.bench_lane.specs.Lane.{ask_of, lost_by, taken_in}
+use Rattle.bench_line.specs.Lanes.{seat_at, seats_at, asked_by}
+use Rattle.bench_line.specs.SeatLaws.{ask_for, ask_is, heard_is}
 
--- A filling that stops where the list has what belongs there already.
-pub fill_rest : {A : Type 0} (g : ℕ → A) (l : List A) (d : A) (n m : ℕ) → length l ≡ m → n ≤ m → ((p : ℕ) → n ≤ p → p < m → g p ≡ get_or l p d) → filled g l n ≡ from g 0 m
-fill_rest {A} g l d n m e h own = go (m - n) n (omega arith) (omega arith)
-  where
-    go : (k i : ℕ) → i + k ≡ m → n ≤ i → filled g l i ≡ from g 0 m
-    go zero i q lo = fill_all g l i m e (omega arith) (omega arith)
-    go (suc k) i q lo =
-        sym (set-get_or (filled g l i) i d)
-        ∙ ap (set (filled g l i) i) (fill_ahead g l i d (omega arith) ∙ sym (own i lo (omega arith)))
-        ∙ fill_more g l i d (g i) (omega arith) refl
-        ∙ go k (i + 1) (omega arith) (omega arith)
+-- ## What places ask together, one place more
 
--- One place of a list is set to what another list has there, which has the same elsewhere.
-set_from : {A : Type 0} (g h : ℕ → A) (i n k : ℕ) (x : A) → k < n → h (i + k) ≡ x → ((p : ℕ) → i ≤ p → (p ≡ i + k → ⊥) → g p ≡ h p) → set (from g i n) k x ≡ from h i n
-unfolding from
-set_from g h i zero k x lt e o = absurd (omega arith)
-set_from {A} g h i (suc n) zero x lt e o =
-    let z : i ≡ i + 0 = omega arith in
-    ap₂ (λ (y : A) (ys : List A). y ∷ ys) (sym e ∙ ap h (sym z)) (from_same g h (suc i) n (λ p lo hi. o p (omega arith) (λ q. omega arith)))
-set_from {A} g h i (suc n) (suc k) x lt e o =
-    let z : suc i + k ≡ i + suc k = omega arith in
-    ap₂ (λ (y : A) (ys : List A). y ∷ ys) (o i (omega arith) (λ q. omega arith))
-    (set_from g h (suc i) n k x (omega arith) (ap h z ∙ e) (λ p lo ne. o p (omega arith) (λ q. ne (omega arith))))
+shortest_more : (v : ℕ) (ws : List ℕ) (w : ℕ) → min w (shortest (v ∷ ws)) ≡ shortest ((v ∷ ws) ++ (w ∷ []))
+unfolding shortest
+shortest_more v [] w = omega arith
+shortest_more v (u ∷ ws) w = omega (arith, shortest_more u ws w)
 
--- a place before i that is not the last of them
-below : (p i : ℕ) → 0 < i → p < i → (p ≡ 0 + (i - 1) → ⊥) → p < i - 1
-below p i lo h ne = go (up_to (i - 1) p)
-  where
-    go : (i - 1 ≤ p) ⊎ (p < i - 1) → p < i - 1
-    go (inl k) = absurd (ne (omega arith))
-    go (inr k) = k
+longest_more : (ws : List ℕ) (w : ℕ) → max w (longest ws) ≡ longest (ws ++ (w ∷ []))
+unfolding longest
+longest_more [] w = refl
+longest_more (v ∷ ws) w = omega (arith, longest_more ws w)
 
--- nobody asks
-abbrev nobody : LineAsk
-nobody = record { some = false; width = 0 }
+taken_more : (active : Bool) (ps : List Pulse) (s : Seat) → taken_in active (asked_by active ps) (ask_for s) ≡ asked_by active (ps ++ asks s)
+unfolding shortest longest
+taken_more active ps (out f) = rw (append-nil ps)
+taken_more active ps (on []) = rw (append-nil ps)
+taken_more false [] (on (p ∷ qs)) = refl
+taken_more true [] (on (p ∷ qs)) = let e : p.width ≡ max p.width 0 = omega arith in ap Some e
+taken_more false (q ∷ ps) (on (p ∷ qs)) =
+    ap Some (shortest_more q.width (widths_of ps) p.width ∙ ap shortest (sym (map-append (λ (x : Pulse). x.width) (q ∷ ps) (p ∷ []))))
+taken_more true (q ∷ ps) (on (p ∷ qs)) =
+    ap Some (longest_more (widths_of (q ∷ ps)) p.width ∙ ap longest (sym (map-append (λ (x : Pulse). x.width) (q ∷ ps) (p ∷ []))))
 
-module _ (l : Lanes) (lost : List ℕ) (active : Bool) (j : ℕ) where
-  -- ## What one place asks
+asked_more : (seats : List Seat) (s : Seat) → asked (seats ++ (s ∷ [])) ≡ asked seats ++ asks s
+unfolding asked
+asked_more [] s = append-nil (asks s)
+asked_more (t ∷ seats) s = rw (asked_more seats s) (sym (append_assoc (asks t) (asked seats) (asks s)))
 
-  -- A place asks by the byte in which the bit lies; past the last bit no byte matters.
-  pub asks_by : (i : ℕ) → LaneOk l i → (k : ℕ) → k ≡ min (j / 8) most_stored
-      → ask_of (lane_of (get_or l.counts i 0) (get_or (get_or l.frames i []) k 0) (get_or l.shorts i 0) (get_or l.longs i 0) (get_or lost i 0)) active j ≡ ask_of (lane_at l lost j i) active j
-  unfolding lane_at
-  asks_by i ok k e = go (up_to most_bits j)
-    where
-      go : (most_bits ≤ j) ⊎ (j < most_bits)
-          → ask_of (lane_of (get_or l.counts i 0) (get_or (get_or l.frames i []) k 0) (get_or l.shorts i 0) (get_or l.longs i 0) (get_or lost i 0)) active j ≡ ask_of (lane_at l lost j i) active j
-      go (inl h) = ended_same _ (lane_at l lost j i) active j refl refl (omega (arith, ok.fits))
-      go (inr h) = let z : k ≡ j / 8 = omega arith in rw z
+one_more : (active : Bool) (seats : List Seat) (s : Seat) → taken_in active (asked_by active (asked seats)) (ask_for s) ≡ asked_by active (asked (seats ++ (s ∷ [])))
+one_more active seats s = taken_more active (asked seats) s ∙ ap (asked_by active) (sym (asked_more seats s))
 
-  -- ## What all places ask
+-- The places before i of a list of lanes ask this together; one place more.
+pub ask_more : (active : Bool) (j : ℕ) (ls : List Lane) (i : ℕ) (v : Option ℕ) → v ≡ asked_by active (asked (seats_at active j (take i ls))) → i < length ls → (l : Lane) → l ≡ get_or ls i l
+    → (ask : Ask) → ask ≡ ask_of l active j → (u : Option ℕ) → u ≡ taken_in active v ask → u ≡ asked_by active (asked (seats_at active j (take (i + 1) ls)))
+ask_more active j ls i v e h l q ask f u g =
+    g ∙ ap₂ (taken_in active) e (f ∙ ask_is l active j) ∙ one_more active (seats_at active j (take i ls)) (seat_at active j l)
+    ∙ ap (λ (x : Seat). asked_by active (asked (seats_at active j (take i ls) ++ (x ∷ [])))) (ap (seat_at active j) q)
+    ∙ ap (λ (xs : List Seat). asked_by active (asked xs)) (sym (map_more (seat_at active j) ls i l h))
 
-  asks_length : length (asks_at l lost active j) ≡ most_stations
-  unfolding asks_at
-  asks_length = from_length (λ (i : ℕ). ask_of (lane_at l lost j i) active j) 0 most_stations
+-- ## What places hear, one place more
 
-  ask_at : (i : ℕ) → i < most_stations → get_or (asks_at l lost active j) i Out ≡ ask_of (lane_at l lost j i) active j
-  unfolding asks_at
-  ask_at i h = from_get_d (λ (p : ℕ). ask_of (lane_at l lost j p) active j) 0 most_stations i Out h ∙ ap (λ (p : ℕ). ask_of (lane_at l lost j p) active j) (zero-add i)
+-- the places before i have heard bit j, those from i on have not, and this is what the former ask at the bit after it
+pub record Hearing (active : Bool) (j : ℕ) (one : Bool) (first now : List Lane) (i : ℕ) (v : Option ℕ) : Type 0 where
+  pub heard_so : seats_at (not active) (j + 1) (take i now) ≡ map (heard (j + 1) one) (seats_at active j (take i first))
+  pub ahead : drop i now ≡ drop i first
+  pub whole : length now ≡ length first
+  pub asks_so : v ≡ asked_by (not active) (asked (seats_at (not active) (j + 1) (take i now)))
 
-  taken_one : (x : Ask) (xs : List Ask) → taken_in active (all_asked active xs) x ≡ all_asked active (x ∷ xs)
-  unfolding all_asked
-  taken_one x xs = refl
+-- Before the first place none has heard it.
+pub hear_start : (active : Bool) (j : ℕ) (one : Bool) (first : List Lane) → Hearing active j one first first 0 None
+unfolding asked
+hear_start active j one first = record { heard_so = refl; ahead = refl; whole = refl; asks_so = refl }
 
-  -- one place more ..
-  pub ask_more : (i : ℕ) → 0 < i → i ≤ most_stations → (ask : Ask) → ask ≡ ask_of (lane_at l lost j (i - 1)) active j
-      → (v u : LineAsk) → v ≡ all_asked active (drop i (asks_at l lost active j)) → u ≡ taken_in active v ask
-      → u ≡ all_asked active (drop (i - 1) (asks_at l lost active j))
-  ask_more i lo hi ask e v u f g =
-      fold_more (all_asked active) (taken_in active) taken_one (asks_at l lost active j) i Out lo (omega (arith, asks_length)) v u f
-      (g ∙ ap (taken_in active v) (e ∙ sym (ask_at (i - 1) (omega arith))))
-
-  -- .. and all of them
-  pub ask_all : (i : ℕ) → i ≤ 0 → (v : LineAsk) → v ≡ all_asked active (drop i (asks_at l lost active j)) → v ≡ all_asked active (asks_at l lost active j)
-  ask_all = fold_all (all_asked active) (taken_in active) taken_one (asks_at l lost active j)
-
-  -- who has nothing to send is out
-  out_past : (n : ℕ) → Silent l.counts n → (i : ℕ) → n ≤ i → i < most_stations → ask_of (lane_at l lost j i) active j ≡ Out
-  unfolding lane_at
-  out_past n s i lo hi = out_empty (lane_at l lost j i) active j (s.none i lo hi)
-
-  -- From the last place that has anything to send on nobody asks.
-  pub ask_start : (n : ℕ) → Silent l.counts n → nobody ≡ all_asked active (drop n (asks_at l lost active j))
-  unfolding all_asked
-  ask_start n s = down (most_stations - n) n (omega (arith, s.few)) (omega arith)
-    where
-      down : (k i : ℕ) → i + k ≡ most_stations → n ≤ i → nobody ≡ all_asked active (drop i (asks_at l lost active j))
-      down zero i e h = fold_start (all_asked active) (taken_in active) taken_one (asks_at l lost active j) i (omega (arith, asks_length))
-      down (suc k) i e h =
-          let z : suc i - 1 ≡ i = omega arith in
-          ask_more (suc i) (omega arith) (omega arith) Out (sym (out_past n s (suc i - 1) (omega arith) (omega arith))) nobody nobody (down k (suc i) (omega arith) (omega arith)) refl
-          ∙ ap (λ (x : ℕ). all_asked active (drop x (asks_at l lost active j))) z
-
-  -- ## What every place hears
-  module _ (one : Bool) where
-    -- where place i has lost, once bit j was on the line
-    unfoldable heard_at : ℕ → ℕ
-    heard_at i = lost_by (j + 1) one (ask_of (lane_at l lost j i) active j) (get_or lost i 0)
-
-    heard_all : from heard_at 0 most_stations ≡ lost_all l lost active j one
-    unfolding lost_all heard_at
-    heard_all = refl
-
-    -- who has nothing to send hears nothing
-    silent_stays : (n : ℕ) → Silent l.counts n → (p : ℕ) → n ≤ p → p < most_stations → heard_at p ≡ get_or lost p 0
-    unfolding heard_at
-    silent_stays n s p a b = ap (λ (x : Ask). lost_by (j + 1) one x (get_or lost p 0)) (out_past n s p a b)
-
-    -- the places before i as they were, and those from i on as the bit leaves them
-    unfoldable mixed_at : ℕ → ℕ → ℕ
-    mixed_at i p = cond (ltb p i) (get_or lost p 0) (heard_at p)
-
-    -- all places, those from i on after the bit
-    pub mixed : ℕ → List ℕ
-    mixed i = from (mixed_at i) 0 most_stations
-
-    -- a place before i
-    mixed_old : (i p : ℕ) → p < i → mixed_at i p ≡ get_or lost p 0
-    unfolding mixed_at
-    mixed_old i p h = rw (lt-ltb p i h)
-
-    -- a place from i on
-    mixed_new : (i p : ℕ) → i ≤ p → mixed_at i p ≡ heard_at p
-    unfolding mixed_at
-    mixed_new i p h = rw (le-ltb p i h)
-
-    at_mixed : (i p : ℕ) → p < most_stations → get_or (mixed i) p 0 ≡ mixed_at i p
-    unfolding mixed
-    at_mixed i p h = from_get_d (mixed_at i) 0 most_stations p 0 h ∙ ap (mixed_at i) (zero-add p)
-
-    at_lost : (p : ℕ) → p < most_stations → get_or (lost_all l lost active j one) p 0 ≡ heard_at p
-    unfolding lost_all heard_at
-    at_lost p h = from_get_d heard_at 0 most_stations p 0 h ∙ ap heard_at (zero-add p)
-
-    -- all places after the bit
-    mixed_all : (i : ℕ) → i ≤ 0 → mixed i ≡ lost_all l lost active j one
-    unfolding mixed
-    mixed_all i h = from_same (mixed_at i) heard_at 0 most_stations (λ p a b. mixed_new i p (omega arith)) ∙ heard_all
-
-    -- From the last place that has anything to send on all stay as they are ..
-    pub hear_start : (n : ℕ) → Silent l.counts n → length lost ≡ most_stations → lost ≡ mixed n
-    unfolding mixed
-    hear_start n s m =
-        fill_start (λ (p : ℕ). get_or lost p 0) lost
-        ∙ fill_rest (λ (p : ℕ). get_or lost p 0) lost 0 0 most_stations m (omega arith) (λ p a b. refl)
-        ∙ from_same (λ (p : ℕ). get_or lost p 0) (mixed_at n) 0 most_stations (λ p a b. same p b (up_to n p))
-      where
-        same : (p : ℕ) → p < 0 + most_stations → (n ≤ p) ⊎ (p < n) → get_or lost p 0 ≡ mixed_at n p
-        same p b (inl h) = sym (mixed_new n p h ∙ silent_stays n s p h (omega arith))
-        same p b (inr h) = sym (mixed_old n p h)
-
-    -- .. and one place more hears the bit.
-    pub hear_more : (i : ℕ) → 0 < i → i ≤ most_stations → (now : List ℕ) → now ≡ mixed i
-        → (ask : Ask) → ask ≡ ask_of (lane_at l now j (i - 1)) active j → (x : ℕ) → x ≡ lost_by (j + 1) one ask (get_or now (i - 1) 0) → set now (i - 1) x ≡ mixed (i - 1)
-    unfolding mixed lane_at heard_at
-    hear_more i lo hi now e ask f x g =
-        let own : get_or now (i - 1) 0 ≡ get_or lost (i - 1) 0 = ap (λ (r : List ℕ). get_or r (i - 1) 0) e ∙ at_mixed i (i - 1) (omega arith) ∙ mixed_old i (i - 1) (omega arith) in
-        let is : x ≡ heard_at (i - 1) = g ∙ rw (f, own) in
-        ap (λ (r : List ℕ). set r (i - 1) x) e
-        ∙ set_from (mixed_at i) (mixed_at (i - 1)) 0 most_stations (i - 1) x (omega arith)
-        (ap (mixed_at (i - 1)) (zero-add (i - 1)) ∙ mixed_new (i - 1) (i - 1) (omega arith) ∙ sym is)
-        (λ p a ne. other p ne (up_to i p))
-      where
-        other : (p : ℕ) → (p ≡ 0 + (i - 1) → ⊥) → (i ≤ p) ⊎ (p < i) → mixed_at i p ≡ mixed_at (i - 1) p
-        other p ne (inl h) = mixed_new i p h ∙ sym (mixed_new (i - 1) p (omega arith))
-        other p ne (inr h) = let k : p < i - 1 = below p i lo h ne in mixed_old i p h ∙ sym (mixed_old (i - 1) p k)
-
--- ## What every place asks at the next bit
-
-module _ (l : Lanes) (lost : List ℕ) (active : Bool) (j : ℕ) (one : Bool) where
-  -- one place more asks ..
-  pub asks_more : (i : ℕ) → 0 < i → i ≤ most_stations → (now : List ℕ) → now ≡ mixed l lost active j one (i - 1)
-      → (ask : Ask) → ask ≡ ask_of (lane_at l now (j + 1) (i - 1)) (not active) (j + 1)
-      → (v u : LineAsk) → v ≡ all_asked (not active) (drop i (asks_at l (lost_all l lost active j one) (not active) (j + 1))) → u ≡ taken_in (not active) v ask
-      → u ≡ all_asked (not active) (drop (i - 1) (asks_at l (lost_all l lost active j one) (not active) (j + 1)))
-  unfolding lane_at
-  asks_more i lo hi now e ask f v u p q =
-      let own : get_or now (i - 1) 0 ≡ get_or (lost_all l lost active j one) (i - 1) 0 =
-      ap (λ (r : List ℕ). get_or r (i - 1) 0) e ∙ at_mixed l lost active j one (i - 1) (i - 1) (omega arith)
-      ∙ mixed_new l lost active j one (i - 1) (i - 1) (omega arith) ∙ sym (at_lost l lost active j one (i - 1) (omega arith)) in
-      ask_more l (lost_all l lost active j one) (not active) (j + 1) i lo hi ask (f ∙ rw own) v u p q
-
-  -- .. and all of them have heard the bit and asked.
-  pub hear_all : (i : ℕ) → i ≤ 0 → (now : List ℕ) → now ≡ mixed l lost active j one i → (v : LineAsk)
-      → v ≡ all_asked (not active) (drop i (asks_at l (lost_all l lost active j one) (not active) (j + 1))) → Heard l lost now active j one v
-  hear_all i h now e v q =
-      let so : now ≡ lost_all l lost active j one = e ∙ mixed_all l lost active j one i h in
+module _ {active : Bool} {j : ℕ} {one : Bool} {first now : List Lane} {i : ℕ} {v : Option ℕ} (s : Hearing active j one first now i v) where
+  -- One place more hears it, and asks.
+  pub hear_more : i < length now → (d : Lane) (lost : Option ℕ) → lost ≡ lost_by (j + 1) one (ask_of (get_or now i d) active j) (get_or now i d).lost
+      → (held : (get_or now i d).count ≤ 8 * length (get_or now i d).frame) → (let y : Lane = record (get_or now i d) { lost = lost; held = held } in
+      (ask : Ask) → ask ≡ ask_of y (not active) (j + 1) → (u : Option ℕ) → u ≡ taken_in (not active) v ask → Hearing active j one first (set now i y) (i + 1) u)
+  hear_more h d lost e held ask f u g =
+      let y : Lane = record (get_or now i d) { lost = lost; held = held } in
+      let k : i < length first = omega (arith, s.whole) in
+      let c : get_or now i d ∷ drop (i + 1) now ≡ get_or first i d ∷ drop (i + 1) first = sym (drop_more now i d h) ∙ s.ahead ∙ drop_more first i d k in
+      let same : get_or now i d ≡ get_or first i d = cc in
+      let rest : drop (i + 1) now ≡ drop (i + 1) first = cc in
+      let seats : seats_at (not active) (j + 1) (take (i + 1) (set now i y)) ≡ seats_at (not active) (j + 1) (take i now) ++ (seat_at (not active) (j + 1) y ∷ []) =
+      ap (seats_at (not active) (j + 1)) (take_more_set now i y h) ∙ map-append (seat_at (not active) (j + 1)) (take i now) (y ∷ []) in
+      let heard_now : seat_at (not active) (j + 1) y ≡ heard (j + 1) one (seat_at active j (get_or now i d)) =
+      let z : j + 1 ≡ suc j = add-one j in
+      subst (λ (k : ℕ). seat_at (not active) k y ≡ heard k one (seat_at active j (get_or now i d))) (sym z)
+      (heard_is (get_or now i d) active j one lost (e ∙ ap (λ (k : ℕ). lost_by k one (ask_of (get_or now i d) active j) (get_or now i d).lost) z) held) in
       record {
-        loses = so;
-        asks = ask_all l (lost_all l lost active j one) (not active) (j + 1) i h v q ∙ ap (λ (x : List ℕ). all_asked (not active) (asks_at l x (not active) (j + 1))) (sym so);
+        heard_so =
+            seats
+            ∙ ap₂ (λ (xs : List Seat) (x : Seat). xs ++ (x ∷ [])) s.heard_so (heard_now ∙ ap (λ (l : Lane). heard (j + 1) one (seat_at active j l)) same)
+            ∙ sym (map-append (heard (j + 1) one) (seats_at active j (take i first)) (seat_at active j (get_or first i d) ∷ []))
+            ∙ ap (map (heard (j + 1) one)) (sym (map_more (seat_at active j) first i d k));
+        ahead = drop-set-lt (i + 1) now i y (omega arith) ∙ rest;
+        whole = length-set now i y ∙ s.whole;
+        asks_so =
+            g ∙ ap₂ (taken_in (not active)) s.asks_so (f ∙ ask_is y (not active) (j + 1))
+            ∙ one_more (not active) (seats_at (not active) (j + 1) (take i now)) (seat_at (not active) (j + 1) y)
+            ∙ ap (λ (xs : List Seat). asked_by (not active) (asked xs)) (sym seats);
       }
+
+  -- After the last place all have.
+  pub hear_all : length first ≤ i → seats_at (not active) (j + 1) now ≡ map (heard (j + 1) one) (seats_at active j first)
+  hear_all h =
+      ap (seats_at (not active) (j + 1)) (sym (take_all i now (omega (arith, s.whole)))) ∙ s.heard_so
+      ∙ ap (λ (ls : List Lane). map (heard (j + 1) one) (seats_at active j ls)) (take_all i first h)
+
+  -- And this is what they ask then.
+  pub asks_all : length first ≤ i → v ≡ asked_by (not active) (asked (seats_at (not active) (j + 1) now))
+  asks_all h = s.asks_so ∙ ap (λ (ls : List Lane). asked_by (not active) (asked (seats_at (not active) (j + 1) ls))) (take_all i now (omega (arith, s.whole)))
+
+-- ## An array that is filled from a list
+
+-- the array ys with f of the first i of xs in its first places
+abbrev pub filled_with : {A B : Type 0} (f : A → B) → List A → List B → ℕ → List B
+filled_with f xs ys i = map f (take i xs) ++ drop i ys
+
+-- one place more
+pub fill_one : {A B : Type 0} (f : A → B) (xs : List A) (ys now : List B) (i : ℕ) → now ≡ filled_with f xs ys i → i < length xs → i < length ys → (x : A) → x ≡ get_or xs i x → (y : B) → y ≡ f x
+    → set now i y ≡ filled_with f xs ys (i + 1)
+fill_one {A} {B} f xs ys now i m h k x q y e =
+    let n : length (map f (take i xs)) ≡ i = length-map (take i xs) f ∙ length-take-le i xs (omega arith) in
+    ap (λ (r : List B). set r i y) m
+    ∙ ap (λ (r : List B). set (map f (take i xs) ++ r) i y) (drop_more ys i y k)
+    ∙ ap (λ (m : ℕ). set (map f (take i xs) ++ (get_or ys i y ∷ drop (i + 1) ys)) m y) (sym n)
+    ∙ set-append_seam (map f (take i xs)) (get_or ys i y) (drop (i + 1) ys) y
+    ∙ ap (λ (z : B). map f (take i xs) ++ (z ∷ drop (i + 1) ys)) (e ∙ ap f q)
+    ∙ sym (append_assoc (map f (take i xs)) (f (get_or xs i x) ∷ []) (drop (i + 1) ys))
+    ∙ ap (λ (r : List B). r ++ drop (i + 1) ys) (sym (map_more f xs i x h))
+
+-- all of them, over n times the same
+pub fill_all : {A B : Type 0} (f : A → B) (xs : List A) (n : ℕ) (y : B) (now : List B) (i : ℕ) → now ≡ filled_with f xs (replicate n y) i → length xs ≤ i → i ≤ length xs
+    → now ≡ map f xs ++ replicate (n - length xs) y
+fill_all {A} {B} f xs n y now i m lo hi =
+    let e : i ≡ length xs = omega arith in
+    m ∙ ap₂ (λ (r : List A) (t : List B). map f r ++ t) (take_all i xs lo) (drop-replicate i n y ∙ ap (λ (k : ℕ). replicate (n - k) y) e)
+
+-- One place more of a list of which g gives what f gives of another.
+pub map_one : {A B C : Type 0} (f : A → C) (g : B → C) (xs : List A) (ys : List B) (i : ℕ) → map g (take i ys) ≡ map f (take i xs) → i < length xs → i < length ys → (d : A) (y : B)
+    → g y ≡ f (get_or xs i d) → map g (take (i + 1) (set ys i y)) ≡ map f (take (i + 1) xs)
+map_one {A} {B} {C} f g xs ys i m h k d y e =
+    ap (map g) (take_more_set ys i y k) ∙ map-append g (take i ys) (y ∷ [])
+    ∙ ap₂ (λ (r : List C) (z : C). r ++ (z ∷ [])) m e
+    ∙ sym (map_more f xs i d h)

@@ -1,110 +1,69 @@
-// What the stations of a row bring to a round. A row has 32 places here; those past its end hold a blank station, which
-// brings nothing. A stored length past 11 counts as 11.
-ghost use Rattle.std.specs.Prelude.{min, ◌≡◌, map};
-ghost use Rattle.bench.specs.Stations.{most_stored};
-ghost use Rattle.bench_line.specs.Entries.{Holders, clipped_count, clipped_frame, width_of};
+// What the stations of a row bring to a round: a lane for each. A stored length past 11 counts as 11.
+ghost use Rattle.std.specs.Prelude.{◌-◌, ◌≤◌, ◌≡◌, ◌++◌, false, length, map, replicate, take};
+ghost use Rattle.checkbyte.specs.Register.{with_check};
+ghost use Rattle.bench.specs.Stations.{most_stations, most_stored};
+ghost use Rattle.bench_line.specs.Lanes.{seat_at, seats_at};
+ghost use Rattle.bench_line.specs.Entries.{Holders, place_of};
 
 use bench::{MOST_SENT, MOST_STATIONS, MOST_STORED, Station};
-use bench_lane::BITS_OF_BYTE;
+use bench_lane::{BITS_OF_BYTE, Lane};
 
 // The number of places up to the last holder: a round looks at no more, however long the row is.
-pub(crate) fn places(row: [Station; MOST_STATIONS]) -> usize
-    ensures { Holders row result }
+pub(crate) fn places(row: &[Station; MOST_STATIONS]) -> usize
+    ensures { Holders row.now result }
 {
-    let mut n = MOST_STATIONS;
-    while 0 < n {
-        let station = row[n - 1];
+    let mut places = 0;
+    for (i, station) in row.iter().enumerate() {
         if 0 < station.len {
-            return n;
+            places = i + 1;
         }
-        n -= 1;
     }
-    n
+    places
 }
 
-// How many bits a station has to send, with those of its check byte.
-fn count_of(station: Station) -> usize
-    ensures { result ≡ clipped_count station }
+// The bytes that a message sends, its check byte after them, filled up with zeros.
+fn frame_of(message: &[u8]) -> [u8; MOST_SENT]
+    requires { length message.now ≤ most_stored }
+    ensures { result ≡ with_check message.now ++ replicate (most_stored - length message.now) 0 }
 {
-    if station.len == 0 {
-        return 0;
-    }
-    (clip(station.len) + 1) * BITS_OF_BYTE
-}
-
-// A stored length as bytes are counted elsewhere, and never more than 11.
-fn clip(len: u8) -> usize
-    ensures { result ≡ min len most_stored }
-{
-    let n = len as usize;
-    if n < MOST_STORED { n } else { MOST_STORED }
-}
-
-// The bytes that a station sends, its check byte after them, filled up with zeros.
-fn frame_of(station: Station) -> [u8; MOST_SENT]
-    ensures { result ≡ clipped_frame station }
-{
-    let n = clip(station.len);
-    let stored = station.bytes;
-    let mut frame: [u8; MOST_SENT] = [0; MOST_SENT];
-    frame[..n].copy_from_slice(&stored[..n]);
-    frame[n] = checkbyte::check_byte(&stored[..n]);
+    let mut frame = [0; MOST_SENT];
+    frame[..message.len()].copy_from_slice(message);
+    frame[message.len()] = checkbyte::check_byte(message);
     frame
 }
 
-// How many bits each station has to send. Those from `places` on hold no message.
-pub(crate) fn counts(row: [Station; MOST_STATIONS], places: usize) -> [usize; MOST_STATIONS]
-    requires { Holders row places }
-    ensures { result ≡ map clipped_count row }
+// The lane of a station as a round begins.
+fn lane_of(station: &Station) -> Lane
+    ensures { seat_at false 0 result ≡ place_of station.now }
 {
-    let mut all: [usize; MOST_STATIONS] = [0; MOST_STATIONS];
-    let mut i = 0;
-    while i < places {
-        let station = row[i];
-        all[i] = count_of(station);
-        i += 1;
+    let message = &station.bytes[..(station.len as usize).min(MOST_STORED)];
+    let count = if message.is_empty() {
+        0
+    } else {
+        (message.len() + 1) * BITS_OF_BYTE
+    };
+    Lane {
+        count,
+        frame: frame_of(message),
+        clock: station.clock,
+        lost: None,
     }
-    all
 }
 
-// The bytes that each station sends. Those from `places` on hold no message, and the check byte of none is 0.
-pub(crate) fn frames(
-    row: [Station; MOST_STATIONS],
-    places: usize,
-) -> [[u8; MOST_SENT]; MOST_STATIONS]
-    requires { Holders row places }
-    ensures { result ≡ map clipped_frame row }
+// The lanes of the stations of a row. The lanes past its end have nothing to send.
+pub(crate) fn lanes(row: &[Station]) -> [Lane; MOST_STATIONS]
+    requires { length row.now ≤ most_stations }
+    ensures { seats_at false 0 (take (length row.now) result) ≡ map place_of row.now }
 {
-    let none: [u8; MOST_SENT] = [0; MOST_SENT];
-    let mut all: [[u8; MOST_SENT]; MOST_STATIONS] = [none; MOST_STATIONS];
-    let mut i = 0;
-    while i < places {
-        let station = row[i];
-        let frame = frame_of(station);
-        all[i] = frame;
-        i += 1;
+    let none = Lane {
+        count: 0,
+        frame: [0; MOST_SENT],
+        clock: symbol::nominal(),
+        lost: None,
+    };
+    let mut lanes = [none; MOST_STATIONS];
+    for (i, station) in row.iter().enumerate() {
+        lanes[i] = lane_of(station);
     }
-    all
-}
-
-// The short bit of each station's clock, or the long one.
-pub(crate) fn widths(row: [Station; MOST_STATIONS], long: bool) -> [u32; MOST_STATIONS]
-    ensures { result ≡ map (width_of long) row }
-{
-    let mut all: [u32; MOST_STATIONS] = [0; MOST_STATIONS];
-    let mut i = 0;
-    while i < MOST_STATIONS {
-        let station = row[i];
-        all[i] = width_of(station, long);
-        i += 1;
-    }
-    all
-}
-
-// The same of one station.
-fn width_of(station: Station, long: bool) -> u32
-    ensures { result ≡ width_of long station }
-{
-    let clock = station.clock;
-    if long { clock.long.0 } else { clock.short.0 }
+    lanes
 }

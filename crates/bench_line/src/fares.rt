@@ -1,44 +1,33 @@
 // How the places fared in a round that is over.
-ghost use Rattle.std.specs.Prelude.{◌≡◌};
-ghost use Rattle.bench_line.specs.Lanes.{Silent};
-ghost use Rattle.bench_line.specs.Seats.{fared_in};
-ghost use Rattle.bench_line.specs.Entries.{verdicts_at};
+ghost use Rattle.std.specs.Prelude.{◌-◌, ◌≤◌, ◌≡◌, ◌++◌, length, map, replicate};
+ghost use Rattle.bench.specs.declared.Fared.TheVariants.{Idle};
+ghost use Rattle.bench.specs.Stations.{most_stations};
+ghost use Rattle.bench.specs.Round.{verdict_of};
+ghost use Rattle.bench_line.specs.Lanes.{verdict_at};
 
 use bench::{Fared, MOST_STATIONS, Verdict};
+use bench_lane::Lane;
 
-// How a place fared, with so many bits to send, that lost there or, at 0, did not.
-fn fared(count: usize, lost: usize) -> Verdict
-    ensures { result ≡ record { fared = fared_in count lost } }
+// How a place fared.
+fn verdict(lane: &Lane) -> Verdict
+    ensures { result ≡ verdict_at lane.now }
 {
-    if count == 0 {
-        return Verdict { fared: Fared::Idle };
-    }
-    if 0 < lost {
-        return Verdict {
-            fared: Fared::Lost(lost),
-        };
-    }
-    Verdict {
-        fared: Fared::Through,
-    }
+    let fared = match lane.lost {
+        _ if lane.count == 0 => Fared::Idle,
+        Some(k) => Fared::Lost(k),
+        None => Fared::Through,
+    };
+    Verdict { fared }
 }
 
-// The verdicts of a round that is over. Only the places before `places` had anything to send.
-pub(crate) fn verdicts(
-    counts: &[usize; MOST_STATIONS],
-    lost: &[usize; MOST_STATIONS],
-    places: usize,
-) -> [Verdict; MOST_STATIONS]
-    requires { Silent counts.now places }
-    ensures { result ≡ verdicts_at counts.now lost.now }
+// The verdicts of a round that is over. The places past the lanes are idle.
+pub(crate) fn verdicts(lanes: &[Lane]) -> [Verdict; MOST_STATIONS]
+    requires { length lanes.now ≤ most_stations }
+    ensures { result ≡ map verdict_at lanes.now ++ replicate (most_stations - length lanes.now) (verdict_of Idle) }
 {
-    let idle = Verdict { fared: Fared::Idle };
-    let mut all: [Verdict; MOST_STATIONS] = [idle; MOST_STATIONS];
-    let mut i = 0;
-    while i < places {
-        let verdict = fared(counts[i], lost[i]);
-        all[i] = verdict;
-        i += 1;
+    let mut all = [Verdict { fared: Fared::Idle }; MOST_STATIONS];
+    for (i, lane) in lanes.iter().enumerate() {
+        all[i] = verdict(lane);
     }
     all
 }

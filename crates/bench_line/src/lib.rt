@@ -36,6 +36,7 @@ pub fn contend(at: [Station; MOST_STATIONS], words: &mut [u32]) -> Contended
 }
 
 // Nobody sends a bit.
+#[tactic(auto, unfolding(crate::specs::Contending::nobody_sent))]
 fn nobody() -> Contended
     ensures { result ≡ nobody_sent }
 {
@@ -49,13 +50,12 @@ fn contend_on(at: [Station; MOST_STATIONS], words: &mut [u32]) -> Contended
     requires { most_words ≤ length words.old }
     ensures { ContendedIn (course_on (map clipped at)) words.old words.new result }
 {
-    let places = entries::places(at);
-    let counts = entries::counts(at, places);
-    let frames = entries::frames(at, places);
-    let shorts = entries::widths(at, false);
-    let longs = entries::widths(at, true);
-    let mut lost: [usize; MOST_STATIONS] = [0; MOST_STATIONS];
-    let bits = sending::send_bits(&counts, &frames, &shorts, &longs, &mut lost, words, places);
-    let verdicts = fares::verdicts(&counts, &lost, places);
-    Contended { bits, verdicts }
+    let places = entries::places(&at);
+    let mut lanes = entries::lanes(&at[..places]);
+    let lanes = &mut lanes[..places];
+    let bits = sending::send_bits(lanes, words);
+    Contended {
+        bits,
+        verdicts: fares::verdicts(lanes),
+    }
 }

@@ -1,14 +1,11 @@
 // The bits of a round, one after the other: what the line does at each, and who stops.
 ghost use Rattle.std.specs.Prelude.{◌≤◌, ◌≡◌, length};
 ghost use Rattle.frame.specs.Writing.{most_words};
-ghost use Rattle.bench.specs.Stations.{most_stations};
-ghost use Rattle.bench_line.specs.Lanes.{Silent, lanes_of};
-ghost use Rattle.bench_line.specs.Seats.{LanesOk};
 ghost use Rattle.bench_line.specs.Sending.{SendsBits};
 
 use crate::lanes;
-use bench::{MOST_SENT, MOST_STATIONS};
-use bench_lane::BITS_OF_BYTE;
+use bench::MOST_SENT;
+use bench_lane::{BITS_OF_BYTE, Lane};
 
 // The most bits of a message, with those of its check byte.
 const MOST_BITS: usize = BITS_OF_BYTE * MOST_SENT;
@@ -16,32 +13,20 @@ const MOST_BITS: usize = BITS_OF_BYTE * MOST_SENT;
 // The words before the first bit: the opening and the SOF.
 pub const BEFORE_BITS: usize = 2;
 
-// Sends the bits, a word for each, until nobody asks. Answers how many there were; each place's loss stands in `lost`. Only
-// the places before `places` have anything to send.
-pub(crate) fn send_bits(
-    counts: &[usize; MOST_STATIONS],
-    frames: &[[u8; MOST_SENT]; MOST_STATIONS],
-    shorts: &[u32; MOST_STATIONS],
-    longs: &[u32; MOST_STATIONS],
-    lost: &mut [usize; MOST_STATIONS],
-    words: &mut [u32],
-    places: usize,
-) -> usize
-    requires { LanesOk (lanes_of counts.now frames.now shorts.now longs.now) × (length lost.old ≡ most_stations) × (most_words ≤ length words.old) × Silent counts.now places }
-    ensures { SendsBits (lanes_of counts.now frames.now shorts.now longs.now) lost.old lost.new words.old words.new result }
+// Sends the bits, a word for each, until nobody asks. Answers how many there were; each place's loss stands in its lane.
+pub(crate) fn send_bits(lanes: &mut [Lane], words: &mut [u32]) -> usize
+    requires { most_words ≤ length words.old }
+    ensures { SendsBits lanes.old lanes.new words.old words.new result }
 {
     let mut active = false;
-    let mut j = 0;
-    let mut asked = lanes::all_ask(counts, frames, shorts, longs, lost, active, j, places);
-    while j < MOST_BITS {
-        if !asked.some {
+    let mut asked = lanes::all_ask(lanes, active, 0);
+    for j in 0..MOST_BITS {
+        let Some(width) = asked else {
             return j;
-        }
-        words[BEFORE_BITS + j] = asked.width;
-        let one = lanes::on_line(active, asked.width);
-        asked = lanes::hear(counts, frames, shorts, longs, lost, active, j, one, places);
+        };
+        words[BEFORE_BITS + j] = width;
+        asked = lanes::hear(lanes, active, j, lanes::on_line(active, width));
         active = !active;
-        j += 1;
     }
-    j
+    MOST_BITS
 }

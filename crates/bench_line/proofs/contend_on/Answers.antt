@@ -1,24 +1,12 @@
--- `bench_line::contend_on` meets its contract: the arrays are the lanes of the stations.
-use Rattle.bench_line.specs.ContendLaws.{ready, silent, contended}
-use borrow.Author.Rules.{rules}
+-- `bench_line::contend_on` meets its contract: the lanes are those of the stations up to the last holder.
+use Rattle.std.proofs.Common.{◌≡◌, length, take, arith, rules, length-take-le}
+use Rattle.bench.specs.Stations.{most_stations}
+use Rattle.bench_line.specs.ContendLaws.{contended}
 use Rattle.bench_line.proofs.contend_on.Goals as goal
-
-pub send_bits-bits-requires : goal.send_bits-bits-requires
-send_bits-bits-requires c = (
-  ready c.args.at (search rules) _ _ _ _ c.counts-counts.ensures c.frames-frames.ensures c.widths-shorts.ensures
-      c.widths-longs.ensures,
-  search rules,
-  c.requires,
-  silent c.args.at (search rules) _ _ _ _ c.counts-counts.ensures c.frames-frames.ensures c.widths-shorts.ensures
-      c.widths-longs.ensures _ c.places-places.ensures,
-)
-
-pub verdicts-verdicts-requires : goal.verdicts-verdicts-requires
-verdicts-verdicts-requires c =
-    silent c.args.at (search rules) _ _ _ _ c.counts-counts.ensures c.frames-frames.ensures c.widths-shorts.ensures
-    c.widths-longs.ensures _ c.places-places.ensures
 
 pub returns : goal.returns
 returns c =
-    contended c.args.at (search rules) _ _ _ _ c.counts-counts.ensures c.frames-frames.ensures c.widths-shorts.ensures
-    c.widths-longs.ensures _ _ _ _ c.send_bits-bits.ensures _ c.verdicts-verdicts.ensures
+    let all : length c.args.at ≡ most_stations = search rules in
+    let n : length (take c.places-places.result c.args.at) ≡ c.places-places.result = length-take-le c.places-places.result c.args.at (omega (arith, c.places-places.ensures.few)) in
+    let m : length c.send_bits-bits.new.lanes ≡ c.places-places.result = search (rules, length-take-le) in
+    contended c.args.at all c.places-places.result c.places-places.ensures _ (rw n at c.lanes-lanes.ensures) _ _ _ _ c.send_bits-bits.ensures _ (rw m at c.verdicts.ensures)

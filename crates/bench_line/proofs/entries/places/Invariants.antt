@@ -1,11 +1,6 @@
-use lib.ListN.{length}
-use mathlib.Core.Path.{◌≡◌}
-use Rattle.bench.specs.Stations.{most_stations}
-use Rattle.bench_line.specs.Entries.{Holders}
+use Rattle.std.proofs.Common.{ℕ, ◌≤◌, ◌<◌, ◌≡◌, get_or}
+use Rattle.bench.specs.Stations.{blank}
 use Rattle.bench_line.proofs.entries.places.Given as goal
 
-abbrev pub invariant-loop-n : goal.invariant-loop-n
-invariant-loop-n l = (length l.row ≡ most_stations) × Holders l.row l.n
-
-abbrev pub decreases-loop-n : goal.decreases-loop-n
-decreases-loop-n l = l.n
+abbrev pub invariant-loop-i : goal.invariant-loop-i
+invariant-loop-i l = (l.places ≤ l.i) × ((k : ℕ) → l.places ≤ k → k < l.i → (get_or l.row k blank).len ≡ 0)
