@@ -1,21 +1,23 @@
 -- Laws.
 -- When the desk's calls answer which number: each of 61 and 62 exactly when its rule is the first to hold, with the lent words
 -- as they were, and 0 exactly when none does.
-use Rattle.std.specs.Prelude.{ℕ, ◌<◌, ◌≡◌, refl, List, ◌↔◌, length}
+use Rattle.std.specs.Prelude.{ℕ, ◌<◌, ◌≡◌, refl, List, ◌↔◌, length, Result}
 use Rattle.std.proofs.Common.{sym, ◌∙◌, arith}
 use Rattle.std.proofs.Math.Path.{ap}
 use borrow.Author.Tests.{ne_eqb}
 use Rattle.laws.specs.Rules.{first_rule, FirstToHold, NoneHolds, TurnedAway}
 use Rattle.laws.specs.RuleLaws.{none_is, refuses}
-use Rattle.desk_text.specs.declared.JudgedInput.{JudgedInput}
+use Rattle.desk_text.specs.declared.GoodInput.{GoodInput}
+use Rattle.desk_text.specs.declared.InputRefusal.{InputRefusal}
 use Rattle.desk_text.specs.declared.Answered.{Answered}
+use Rattle.desk_text.specs.declared.FewLent.{FewLent}
 use Rattle.desk_text.specs.Input.{lines, first_bad, recording_of}
 use Rattle.desk_text.specs.Report.{desk_of}
 use Rattle.desk_text.specs.Promise.{lent_short, judge_rules, desk_rules, judging, JudgedTale, judged_told, laid_on, JudgePromise, answering, DeskTale, answered_told, DeskPromise}
 
 -- ## Judging
 
-module _ {s entry exit : List ℕ} {r : JudgedInput} (q : JudgePromise s entry exit r) where
+module _ {s entry exit : List ℕ} {r : Result GoodInput InputRefusal} (q : JudgePromise s entry exit r) where
   its_number : (judged_told r).number ≡ (judging s (length entry)).number
   its_number = ap (λ (t : JudgedTale). t.number) q.tells_it
 
@@ -47,7 +49,7 @@ module _ {s entry exit : List ℕ} {r : JudgedInput} (q : JudgePromise s entry e
 
 -- ## The desk's call
 
-module _ {s words left entry exit : List ℕ} {r : Answered} (q : DeskPromise s words left entry exit r) where
+module _ {s words left entry exit : List ℕ} {r : Result Answered FewLent} (q : DeskPromise s words left entry exit r) where
   desk_number : (answered_told r).number ≡ (answering s (length words) (length entry)).number
   desk_number = ap (λ (t : DeskTale). t.number) q.tells_it
 

@@ -1,6 +1,5 @@
 -- Laws.
--- What a search for a byte through the whole of a text finds, as `find` tells it, and what the first newline
--- that it finds says of the lines.
+-- What a search for a byte through the whole of a text finds, and what the first newline that it finds says of the lines.
 use Rattle.std.specs.Prelude.{ℕ, ◌+◌, ◌-◌, ◌≤◌, ◌<◌, ◌≡◌, List, [], ◌∷◌, length, take, drop}
 use Rattle.std.proofs.Common.{sym, ◌∙◌, add-one, arith, length-drop, take_all}
 use Rattle.desk_text.specs.Places.{index_of, slice}
@@ -12,18 +11,15 @@ use Rattle.desk_text.specs.PieceLaws.{lines_first, lines_none}
 pub rest_all : (s : List ℕ) (a : ℕ) → take (length s - a) (drop a s) ≡ drop a s
 rest_all s a = take_all (length s - a) (drop a s) (omega (arith, length-drop a s))
 
--- A search through the whole of s finds the first place of the byte.
+-- A search through the part from 0 to the length of s finds the first place of the byte.
 pub found : (b : ℕ) (s : List ℕ) (m : ℕ) → m ≡ 0 + index_of b (slice 0 (length s) s) → m ≡ index_of b s
 unfolding slice
 found b s m e = e ∙ rw (take_all (length s) s (omega arith)) (omega arith)
 
-module _ (t : List ℕ) {e : ℕ} (at : e ≡ 0 + index_of 10 (slice 0 (length t) t)) where
-  -- Where no newline is found the text is one line that none closes.
-  pub open_line : 0 < length t → e ≡ length t → lines t ≡ unshut t ∷ []
-  open_line h q = lines_none t h (sym (found newline t e at) ∙ q)
+-- Where no newline is found the text is one line that none closes.
+pub open_line : (t : List ℕ) → 0 < length t → index_of newline t ≡ length t → lines t ≡ unshut t ∷ []
+open_line t h q = lines_none t h q
 
-  -- Where one is found it closes the first line, and the other lines are those of what follows.
-  pub closed_line : e ≤ length t → (e ≡ length t → ⊥) → lines t ≡ shut (take e t) ∷ lines (drop (e + 1) t)
-  closed_line inside n =
-      let i : e ≡ index_of newline t = found newline t e at in
-      lines_first t (omega arith) ∙ rw (← i, add-one)
+-- Where one is found it closes the first line, and the other lines are those of what follows.
+pub closed_line : (t : List ℕ) {e : ℕ} → e ≡ index_of newline t → e < length t → lines t ≡ shut (take e t) ∷ lines (drop (e + 1) t)
+closed_line t {e} i h = lines_first t (omega arith) ∙ rw (← i, add-one)

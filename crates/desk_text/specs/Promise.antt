@@ -1,13 +1,15 @@
 -- Definitions.
 -- What the desk's two calls promise: judging an input into lent words, and writing the whole text into lent bytes.
 -- Two numbers here are ours, where document 01 has none: 61 for a call that is lent too little, 62 for an input that is bad.
-use Rattle.std.specs.Prelude.{ℕ, ◌+◌, ◌*◌, ◌≡◌, cond, List, [], ◌∷◌, ◌++◌, eqb, length, drop}
+use Rattle.std.specs.Prelude.{ℕ, ◌+◌, ◌*◌, ◌≡◌, cond, List, [], ◌∷◌, ◌++◌, eqb, length, drop, Result, Ok, Err}
 use Rattle.laws.specs.Meant.{Test, below, equals, either, is_not}
 use Rattle.laws.specs.Rules.{Rule, rule, first_rule}
-use Rattle.desk_text.specs.declared.JudgedInput.{JudgedInput}
-use Rattle.desk_text.specs.declared.JudgedInput.TheVariants.{Good, Bad, FewLentWords}
+use Rattle.desk_text.specs.declared.GoodInput.{GoodInput}
+use Rattle.desk_text.specs.declared.InputRefusal.{InputRefusal}
+use Rattle.desk_text.specs.declared.InputRefusal.TheVariants.{Bad, FewLentWords}
 use Rattle.desk_text.specs.declared.Answered.{Answered}
-use Rattle.desk_text.specs.declared.Answered.TheVariants.{Report, Refused, FewLent}
+use Rattle.desk_text.specs.declared.Answered.TheVariants.{Report, Refused}
+use Rattle.desk_text.specs.declared.FewLent.{FewLent}
 use Rattle.desk_text.specs.Input.{Line, lines, first_bad, customer_of, vehicle_of, recording_of, most_widths}
 use Rattle.desk_text.specs.Report.{desk_of}
 
@@ -60,11 +62,11 @@ pub record JudgedTale : Type 0 where
   pub widths : ℕ
 
 -- the number and the values of each case of the answer to judging
-abbrev pub judged_told : JudgedInput → JudgedTale
-judged_told (Good labels widths) =
-    record { number = 0; line = 0; customer = labels.customer; vehicle = labels.vehicle; widths = widths }
-judged_told (Bad line) = record { number = 62; line = line; customer = 0; vehicle = 0; widths = 0 }
-judged_told FewLentWords = record { number = 61; line = 0; customer = 0; vehicle = 0; widths = 0 }
+abbrev pub judged_told : Result GoodInput InputRefusal → JudgedTale
+judged_told (Ok good) =
+    record { number = 0; line = 0; customer = good.labels.customer; vehicle = good.labels.vehicle; widths = good.widths }
+judged_told (Err (Bad line)) = record { number = 62; line = line; customer = 0; vehicle = 0; widths = 0 }
+judged_told (Err FewLentWords) = record { number = 61; line = 0; customer = 0; vehicle = 0; widths = 0 }
 
 -- a value of a good input alone
 abbrev pub if_good : ℕ → ℕ → ℕ
@@ -86,7 +88,7 @@ unfoldable pub judging : List ℕ → (lent : ℕ) → JudgedTale
 judging s lent = judging_by (first_rule (judge_rules s lent)) (lines s)
 
 -- The promise of judging the bytes s: the answer, and the lent words from entry to exit.
-pub record JudgePromise (s entry exit : List ℕ) (answer : JudgedInput) : Type 0 where
+pub record JudgePromise (s entry exit : List ℕ) (answer : Result GoodInput InputRefusal) : Type 0 where
   pub tells_it : judged_told answer ≡ judging s (length entry)
   pub lends_it : exit ≡ laid_on (laid_words (judging s (length entry)).number s) entry
 
@@ -99,10 +101,10 @@ pub record DeskTale : Type 0 where
   pub length : ℕ
 
 -- the number and the values of each case of the desk's answer
-abbrev pub answered_told : Answered → DeskTale
-answered_told (Report length) = record { number = 0; line = 0; length = length }
-answered_told (Refused line length) = record { number = 62; line = line; length = length }
-answered_told FewLent = record { number = 61; line = 0; length = 0 }
+abbrev pub answered_told : Result Answered FewLent → DeskTale
+answered_told (Ok (Report length)) = record { number = 0; line = 0; length = length }
+answered_told (Ok (Refused line length)) = record { number = 62; line = line; length = length }
+answered_told (Err few) = record { number = 61; line = 0; length = 0 }
 
 -- what is laid down in the lent bytes: the text, and nothing where too little is lent
 abbrev pub laid_text : ℕ → List ℕ → List ℕ
@@ -118,7 +120,7 @@ unfoldable pub answering : List ℕ → (words bytes : ℕ) → DeskTale
 answering s words bytes = answering_by (first_rule (desk_rules s words bytes)) s
 
 -- The promise of the desk for the bytes s: the answer, the lent words and the lent bytes.
-pub record DeskPromise (s words_entry words_exit entry exit : List ℕ) (answer : Answered) : Type 0 where
+pub record DeskPromise (s words_entry words_exit entry exit : List ℕ) (answer : Result Answered FewLent) : Type 0 where
   pub tells_it : answered_told answer ≡ answering s (length words_entry) (length entry)
   pub words_it : words_exit ≡ laid_on (laid_words (answering s (length words_entry) (length entry)).number s) words_entry
   pub lends_it : exit ≡ laid_on (laid_text (answering s (length words_entry) (length entry)).number s) entry

@@ -3,8 +3,8 @@
 // they share.
 #![tactic(auto)]
 
-ghost use Rattle.std.specs.Prelude.{◌≡◌, ◌+◌, ◌≤◌, length};
-ghost use Rattle.desk_text.specs.Places.{index_of, slice};
+ghost use Rattle.std.specs.Prelude.{◌≡◌, ◌<◌, length, MatchOption};
+ghost use Rattle.desk_text.specs.Places.{index_of};
 
 // What every input can be answered with: a word for each width that it may have, and bytes for the longest text.
 pub const MOST_WIDTHS: usize = 16384;
@@ -13,43 +13,42 @@ pub const MOST_TEXT: usize = 442463;
 
 // How many bytes each label of a good input has. The customer's stands after `own` and a tab, the vehicle's after it and
 // another tab.
-#[derive(Clone, Copy)]
+#[derive(Clone, Copy, Debug, PartialEq, Eq)]
 pub struct Labels {
     pub customer: usize,
     pub vehicle: usize,
 }
 
-// What judging an input answers: its labels and the number of its widths, which then stand first in the lent words; or the
-// number of its first bad line; or that too little is lent. Only a good input changes anything.
-#[derive(Clone, Copy)]
-pub enum JudgedInput {
-    Good { labels: Labels, widths: usize },
+// What judging a good input answers: its labels, and the number of its widths, which then stand first in the lent words.
+#[derive(Clone, Copy, Debug, PartialEq, Eq)]
+pub struct GoodInput {
+    pub labels: Labels,
+    pub widths: usize,
+}
+
+// Why judging refuses an input: the number of its first bad line; or that too little is lent. Then nothing lent is changed.
+#[derive(Clone, Copy, Debug, PartialEq, Eq)]
+pub enum InputRefusal {
     Bad { line: usize },
     FewLentWords,
 }
 
 // What the desk answers: how many bytes of text stand first in the lent bytes, and, where that text is a refusal of the input,
 // the number of its first bad line. The widths of a good input stand first in the lent words; a bad one leaves them as they
-// were. FewLent is a refusal of the call, and changes nothing.
-#[derive(Clone, Copy)]
+// were.
+#[derive(Clone, Copy, Debug, PartialEq, Eq)]
 pub enum Answered {
     Report { length: usize },
     Refused { line: usize, length: usize },
-    FewLent,
 }
 
-// The place of the first such byte of a text, or the text's length where there is none.
-pub fn find(s: &[u8], byte: u8) -> usize
-    ensures first { result ≡ index_of byte s.now }
-    ensures place { result ≡ 0 + index_of byte (slice 0 (length s.now) s.now) }
-    ensures within { result ≤ length s.now }
+// Why the desk refuses a call: too few words or bytes are lent. Then nothing lent is changed.
+#[derive(Clone, Copy, Debug, PartialEq, Eq)]
+pub struct FewLent;
+
+// Where the first such byte of a text stands, or None where there is none.
+pub fn find(s: &[u8], byte: u8) -> Option<usize>
+    ensures { MatchOption result (index_of byte s.now ≡ length s.now) (λ m. (m ≡ index_of byte s.now) × (m < length s.now)) }
 {
-    let mut i = 0;
-    while i < s.len() {
-        if s[i] == byte {
-            return i;
-        }
-        i += 1;
-    }
-    s.len()
+    s.iter().position(|&x| x == byte)
 }
