@@ -13,6 +13,7 @@ pub const ALL_ONES: u8 = 0xFF;
 pub const RESIDUE: u8 = 0xC4;
 
 // One bit of the register.
+#[tactic(auto, using(crate::specs::Residue::shift_byte))]
 fn shifted(register: u8) -> u8
     ensures { result ≡ shift register }
 {
@@ -20,29 +21,25 @@ fn shifted(register: u8) -> u8
 }
 
 // The register after one byte more.
+#[tactic(auto, using(crate::proofs::Shifts::all_left, crate::proofs::Shifts::one_done, crate::proofs::Shifts::none_left))]
 pub fn step(register: u8, byte: u8) -> u8
     ensures { result ≡ step_of register byte }
 {
-    let r0 = register ^ byte;
-    let r1 = shifted(r0);
-    let r2 = shifted(r1);
-    let r3 = shifted(r2);
-    let r4 = shifted(r3);
-    let r5 = shifted(r4);
-    let r6 = shifted(r5);
-    let r7 = shifted(r6);
-    shifted(r7)
+    let mut r = register ^ byte;
+    for _ in 0..8u8 {
+        r = shifted(r);
+    }
+    r
 }
 
 // The register after all the bytes, from where it stood before them.
+#[tactic(auto, using(crate::specs::Residue::register_at, crate::specs::Residue::register_end))]
 pub fn register_from(start: u8, bytes: &[u8]) -> u8
     ensures { result ≡ register_from start bytes.now }
 {
     let mut r = start;
-    let mut i = 0;
-    while i < bytes.len() {
-        r = step(r, bytes[i]);
-        i += 1;
+    for byte in bytes {
+        r = step(r, *byte);
     }
     r
 }
@@ -55,6 +52,7 @@ pub fn check_from(start: u8, bytes: &[u8]) -> u8
 }
 
 // The check byte that is sent after these bytes.
+#[tactic(auto, unfolding(crate::specs::Register::check_of))]
 pub fn check_byte(bytes: &[u8]) -> u8
     ensures { result ≡ check_of bytes.now }
 {

@@ -1,12 +1,11 @@
 -- Laws.
 -- What is written is read back: for every admitted message and every good clock.
-use Rattle.std.specs.Prelude.{ℕ, ◌+◌, ◌-◌, ◌%◌, ◌≤◌, ◌≡◌, refl, Bool, true, false, not, length}
+use Rattle.std.specs.Prelude.{ℕ, ◌+◌, ◌-◌, ◌%◌, ◌≤◌, ◌≡◌, refl, Bool, true, false, not, Some, length}
 use mathlib.Core.List.{List, [], ◌∷◌, ◌++◌}
 use Rattle.std.proofs.Common.{arith}
 use Rattle.symbol.specs.declared.Symbol.{Symbol}
 use Rattle.symbol.specs.declared.Symbol.TheVariants.{Bit0, Bit1, Eod, Sof}
 use Rattle.symbol.specs.declared.Clock.{Clock}
-use Rattle.symbol.specs.declared.Sent.TheVariants.{For}
 use Rattle.symbol.specs.Classes.{Window}
 use Rattle.symbol.specs.Clocks.{good_of, Good}
 use Rattle.symbol.specs.Sending.{bit_width, end_width, sent_of, bit_symbol}
@@ -27,7 +26,7 @@ use Rattle.frame.proofs.ReadBack.{reads_wave}
 
 module _ (c : Clock) (g : Good c) where
   -- what a good clock sends for a symbol lies in the symbol's receiving window
-  sent_window : (active : Bool) (s : Symbol) (w : Micros) → sent_of c active s ≡ For w → Window active s w.0
+  sent_window : (active : Bool) (s : Symbol) (w : Micros) → sent_of c active s ≡ Some w → Window active s w.0
   sent_window active s w e = sending_inside active s w.0 (sent_in c active s w g e)
 
   bit_window : (active b : Bool) → Window active (bit_symbol b) (bit_width c active b).0

@@ -1,22 +1,21 @@
 -- Definitions.
 -- A recording's intervals, each replaced by its symbol's nominal width: what demand 2's second theorem speaks of.
-use Rattle.std.specs.Prelude.{ℕ, zero, suc, ◌+◌, ◌-◌, cond, List, [], ◌∷◌, take, length}
+use Rattle.std.specs.Prelude.{ℕ, zero, suc, ◌+◌, ◌-◌, cond, List, [], ◌∷◌, Option, None, Some, take, length}
+use Rattle.units.specs.declared.Micros.{Micros}
 use Rattle.symbol.specs.Clocks.{nominal_clock}
 use Rattle.symbol.specs.Sending.{end_width, sent_of}
 use Rattle.frame.specs.declared.Response.{Response}
 use Rattle.frame.specs.declared.Response.TheVariants.{Without, Plain, Checked}
 use Rattle.frame.specs.Line.{active_at, symbol_at, single, end_at}
-use Rattle.symbol.specs.declared.Sent.{Sent}
-use Rattle.symbol.specs.declared.Sent.TheVariants.{For, Never}
 
 -- the bytes without the last one, which is their check byte
 abbrev pub without_check : List ℕ → List ℕ
 without_check bs = take (length bs - 1) bs
 
 -- the width of what is sent; 0 where nothing is, which no frame has
-abbrev pub width_of : Sent → ℕ
-width_of (For w) = w.0
-width_of Never = 0
+abbrev pub width_of : Option Micros → ℕ
+width_of (Some w) = w.0
+width_of None = 0
 
 -- the nominal width of the interval at j: 300 for an end, else what the nominal clock sends for its symbol at its level
 unfoldable pub nominal_at : List ℕ → ℕ → ℕ

@@ -1,13 +1,12 @@
 -- Laws.
 -- What a good clock sends is read as it was meant.
-use Rattle.std.specs.Prelude.{ℕ, ◌≤◌, ◌≡◌, refl, Bool, true, false, ◌&&◌, leb}
+use Rattle.std.specs.Prelude.{ℕ, ◌≤◌, ◌≡◌, refl, Bool, true, false, ◌&&◌, None, Some, leb}
 use Rattle.std.proofs.Common.{arith, leb-true, le-leb}
 use Rattle.laws.specs.Tests.{both}
 use Rattle.units.specs.declared.Micros.{Micros}
 use Rattle.symbol.specs.declared.Symbol.{Symbol}
 use Rattle.symbol.specs.declared.Symbol.TheVariants.{Noise, Bit0, Bit1, Eod, Sof, Eof, Ifs, Break, Stuck}
 use Rattle.symbol.specs.declared.Clock.{Clock}
-use Rattle.symbol.specs.declared.Sent.TheVariants.{For, Never}
 use Rattle.symbol.specs.Classes.{Window}
 use Rattle.symbol.specs.Clocks.{within_of, good_of, nominal_clock}
 use Rattle.symbol.specs.Sending.{end_width, sent_of, SendingWindow}
@@ -48,11 +47,11 @@ pub nominal_good : good_of nominal_clock ≡ true
 unfolding good_of
 nominal_good = refl
 
-unsent : {A : Type 0} {w : Micros} → Never ≡ For w → A
+unsent : {A : Type 0} {w : Micros} → None ≡ Some w → A
 unsent e = let z : ◌≡◌ {A = ℕ} 0 1 = cc in absurd (omega arith)
 
 -- Every width that a good clock sends for a symbol lies in that symbol's sending window.
-pub sent_in : (c : Clock) (active : Bool) (s : Symbol) (w : Micros) → Good c → sent_of c active s ≡ For w → SendingWindow active s w.0
+pub sent_in : (c : Clock) (active : Bool) (s : Symbol) (w : Micros) → Good c → sent_of c active s ≡ Some w → SendingWindow active s w.0
 sent_in c false Bit0 w g e = let d : c.short ≡ w = cc in rw (← d) g.short
 sent_in c false Bit1 w g e = let d : c.long ≡ w = cc in rw (← d) g.long
 sent_in c false Eod w g e = let d : c.sof ≡ w = cc in rw (← d) g.sof

@@ -10,7 +10,7 @@ ghost use Rattle.symbol.specs.Sending.{bit_width};
 use units::Micros;
 
 // The kinds of interval that document 01's table of widths tells apart.
-#[derive(Clone, Copy)]
+#[derive(Clone, Copy, Debug, PartialEq, Eq)]
 pub enum Symbol {
     Noise,
     Bit0,
@@ -26,18 +26,11 @@ pub enum Symbol {
 // The widths that a controller sends with: its short bit, its long bit, and its SOF, which is its EOD too. Laid out
 // as C has it, since other languages hand it over.
 #[repr(C)]
-#[derive(Clone, Copy)]
+#[derive(Clone, Copy, Debug, PartialEq, Eq)]
 pub struct Clock {
     pub short: Micros,
     pub long: Micros,
     pub sof: Micros,
-}
-
-// What a clock sends for a symbol at a level: an interval of some width, or none ever.
-#[derive(Clone, Copy)]
-pub enum Sent {
-    For(Micros),
-    Never,
 }
 
 // The last width of each row of the table, and the first width at which an active line counts as stuck.
@@ -77,26 +70,18 @@ const LONG_NOMINAL: u32 = 128;
 const SOF_NOMINAL: u32 = 200;
 
 // The symbol of a passive interval, where a short bit is a 0.
+#[tactic(auto, unfolding(crate::specs::Classes::class_of))]
 fn class_passive(w: u32) -> Symbol
     ensures { result ≡ class_of false w }
 {
-    if w <= NOISE_LAST {
-        return Symbol::Noise;
+    match w {
+        ..=NOISE_LAST => Symbol::Noise,
+        ..=SHORT_LAST => Symbol::Bit0,
+        ..=LONG_LAST => Symbol::Bit1,
+        ..=SOF_LAST => Symbol::Eod,
+        ..=EOF_LAST => Symbol::Eof,
+        _ => Symbol::Ifs,
     }
-    if w <= SHORT_LAST {
-        let short = Symbol::Bit0;
-        return short;
-    }
-    if w <= LONG_LAST {
-        return Symbol::Bit1;
-    }
-    if w <= SOF_LAST {
-        return Symbol::Eod;
-    }
-    if w <= EOF_LAST {
-        return Symbol::Eof;
-    }
-    Symbol::Ifs
 }
 
 // The symbol of an active interval, where a short bit is a 1.
@@ -104,70 +89,50 @@ fn class_passive(w: u32) -> Symbol
 fn class_active(w: u32) -> Symbol
     ensures { result ≡ class_of true w }
 {
-    if w <= NOISE_LAST {
-        return Symbol::Noise;
+    match w {
+        ..=NOISE_LAST => Symbol::Noise,
+        ..=SHORT_LAST => Symbol::Bit1,
+        ..=LONG_LAST => Symbol::Bit0,
+        ..=SOF_LAST => Symbol::Sof,
+        ..STUCK_FIRST => Symbol::Break,
+        _ => Symbol::Stuck,
     }
-    if w <= SHORT_LAST {
-        return Symbol::Bit1;
-    }
-    if w <= LONG_LAST {
-        return Symbol::Bit0;
-    }
-    if w <= SOF_LAST {
-        return Symbol::Sof;
-    }
-    if w < STUCK_FIRST {
-        return Symbol::Break;
-    }
-    Symbol::Stuck
 }
 
 // The symbol of an interval: every width, at either level, has one.
 pub fn class(active: bool, width: Micros) -> Symbol
     ensures { result ≡ class_of active width.0 }
 {
-    let w = width.0;
     if active {
-        return class_active(w);
+        class_active(width.0)
+    } else {
+        class_passive(width.0)
     }
-    class_passive(w)
 }
 
 // Whether an interval is an end: it opens a frame, and it closes one.
+#[tactic(auto, unfolding(crate::specs::Classes::end_of))]
 pub fn is_end(active: bool, width: Micros) -> bool
     ensures { result ≡ end_of active width.0 }
 {
-    let w = width.0;
-    if active {
-        return false;
-    }
-    SOF_LAST < w
+    !active && SOF_LAST < width.0
 }
 
 // Whether a width lies in a window, its two edges included.
 fn within(w: u32, first: u32, last: u32) -> bool
     ensures { result ≡ within_of first last w }
 {
-    if first <= w {
-        return w <= last;
-    }
-    false
+    (first..=last).contains(&w)
 }
 
 // Whether all three widths of a clock lie in the sending windows.
+#[tactic(auto, unfolding(crate::specs::Clocks::good_of))]
 pub fn good_clock(clock: Clock) -> bool
     ensures { result ≡ good_of clock }
 {
-    let short = clock.short.0;
-    let long = clock.long.0;
-    let sof = clock.sof.0;
-    if within(short, SHORT_LEAST, SHORT_MOST) {
-        if within(long, LONG_LEAST, LONG_MOST) {
-            return within(sof, SOF_LEAST, SOF_MOST);
-        }
-        return false;
-    }
-    false
+    within(clock.short.0, SHORT_LEAST, SHORT_MOST)
+        && within(clock.long.0, LONG_LEAST, LONG_MOST)
+        && within(clock.sof.0, SOF_LEAST, SOF_MOST)
 }
 
 // The clock that every controller means to keep.
@@ -182,13 +147,13 @@ pub fn nominal() -> Clock
 }
 
 // The width of a bit: a 0 is short where the line is passive, a 1 where it is active.
+#[tactic(auto, using(crate::proofs::BitWidth::short_bit, crate::proofs::BitWidth::long_bit))]
 pub fn bit_width(clock: Clock, active: bool, one: bool) -> Micros
     ensures { result ≡ bit_width clock active one }
 {
     if active == one {
-        let short = clock.short;
-        return short;
+        clock.short
+    } else {
+        clock.long
     }
-    let long = clock.long;
-    long
 }
