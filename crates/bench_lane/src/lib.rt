@@ -66,14 +66,18 @@ fn outlasts(asked: Option<u32>, width: u32, active: bool) -> u32
     }
 }
 
-// The bit at which a place has lost, once bit k was on the line, a 1 or not: it loses at k if its own bit was another, or
-// if it had sent its check byte already.
-pub fn lost_by(ask: Ask, lost: Option<usize>, k: usize, one: bool) -> Option<usize>
-    ensures { result ≡ lost_by k one ask lost }
+// A place hears bit k, a 1 or not, at which it asked this: it loses there if its own bit was another, or if it had sent its
+// check byte already.
+pub fn hear(lane: &mut Lane, ask: Ask, k: usize, one: bool)
+    ensures { lane.new ≡ record lane.old { lost = lost_by k one ask lane.old.lost } }
 {
     match ask {
-        Ask::Out => lost,
-        Ask::Ended => Some(k),
-        Ask::Bit(own, _) => if own == one { lost } else { Some(k) },
+        Ask::Out => {}
+        Ask::Ended => lane.lost = Some(k),
+        Ask::Bit(own, _) => {
+            if own != one {
+                lane.lost = Some(k);
+            }
+        }
     }
 }

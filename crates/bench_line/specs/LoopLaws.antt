@@ -66,27 +66,26 @@ hear_start active j one first = record { heard_so = refl; ahead = refl; whole = 
 
 module _ {active : Bool} {j : ℕ} {one : Bool} {first now : List Lane} {i : ℕ} {v : Option ℕ} (s : Hearing active j one first now i v) where
   -- One place more hears it, and asks.
-  pub hear_more : i < length now → (d : Lane) (lost : Option ℕ) → lost ≡ lost_by (j + 1) one (ask_of (get_or now i d) active j) (get_or now i d).lost
-      → (held : (get_or now i d).count ≤ 8 * length (get_or now i d).frame) → (let y : Lane = record (get_or now i d) { lost = lost; held = held } in
-      (ask : Ask) → ask ≡ ask_of y (not active) (j + 1) → (u : Option ℕ) → u ≡ taken_in (not active) v ask → Hearing active j one first (set now i y) (i + 1) u)
-  hear_more h d lost e held ask f u g =
-      let y : Lane = record (get_or now i d) { lost = lost; held = held } in
+  pub hear_more : i < length now → (l : Lane) → l ≡ get_or now i l → (ask : Ask) → ask ≡ ask_of l active j → (y : Lane) → y ≡ record l { lost = lost_by (j + 1) one ask l.lost }
+      → (next : Ask) → next ≡ ask_of y (not active) (j + 1) → (u : Option ℕ) → u ≡ taken_in (not active) v next → Hearing active j one first (set now i y) (i + 1) u
+  hear_more h l q ask a y e next f u g =
       let k : i < length first = omega (arith, s.whole) in
-      let c : get_or now i d ∷ drop (i + 1) now ≡ get_or first i d ∷ drop (i + 1) first = sym (drop_more now i d h) ∙ s.ahead ∙ drop_more first i d k in
-      let same : get_or now i d ≡ get_or first i d = cc in
+      let c : get_or now i l ∷ drop (i + 1) now ≡ get_or first i l ∷ drop (i + 1) first = sym (drop_more now i l h) ∙ s.ahead ∙ drop_more first i l k in
+      let same : l ≡ get_or first i l = cc in
       let rest : drop (i + 1) now ≡ drop (i + 1) first = cc in
       let seats : seats_at (not active) (j + 1) (take (i + 1) (set now i y)) ≡ seats_at (not active) (j + 1) (take i now) ++ (seat_at (not active) (j + 1) y ∷ []) =
       ap (seats_at (not active) (j + 1)) (take_more_set now i y h) ∙ map-append (seat_at (not active) (j + 1)) (take i now) (y ∷ []) in
-      let heard_now : seat_at (not active) (j + 1) y ≡ heard (j + 1) one (seat_at active j (get_or now i d)) =
-      let z : j + 1 ≡ suc j = add-one j in
-      subst (λ (k : ℕ). seat_at (not active) k y ≡ heard k one (seat_at active j (get_or now i d))) (sym z)
-      (heard_is (get_or now i d) active j one lost (e ∙ ap (λ (k : ℕ). lost_by k one (ask_of (get_or now i d) active j) (get_or now i d).lost) z) held) in
+      let heard_now : seat_at (not active) (j + 1) y ≡ heard (j + 1) one (seat_at active j l) =
+          let z : j + 1 ≡ suc j = add-one j in
+          subst (λ (k : ℕ). y ≡ record l { lost = lost_by k one (ask_of l active j) l.lost } → seat_at (not active) k y ≡ heard k one (seat_at active j l)) (sym z)
+          (λ x. ap (seat_at (not active) (suc j)) x ∙ heard_is l active j one)
+          (e ∙ ap (λ (x : Ask). record l { lost = lost_by (j + 1) one x l.lost }) a) in
       record {
         heard_so =
             seats
-            ∙ ap₂ (λ (xs : List Seat) (x : Seat). xs ++ (x ∷ [])) s.heard_so (heard_now ∙ ap (λ (l : Lane). heard (j + 1) one (seat_at active j l)) same)
-            ∙ sym (map-append (heard (j + 1) one) (seats_at active j (take i first)) (seat_at active j (get_or first i d) ∷ []))
-            ∙ ap (map (heard (j + 1) one)) (sym (map_more (seat_at active j) first i d k));
+            ∙ ap₂ (λ (xs : List Seat) (x : Seat). xs ++ (x ∷ [])) s.heard_so (heard_now ∙ ap (λ (x : Lane). heard (j + 1) one (seat_at active j x)) same)
+            ∙ sym (map-append (heard (j + 1) one) (seats_at active j (take i first)) (seat_at active j (get_or first i l) ∷ []))
+            ∙ ap (map (heard (j + 1) one)) (sym (map_more (seat_at active j) first i l k));
         ahead = drop-set-lt (i + 1) now i y (omega arith) ∙ rest;
         whole = length-set now i y ∙ s.whole;
         asks_so =

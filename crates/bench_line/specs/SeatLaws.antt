@@ -65,10 +65,9 @@ module _ (l : Lane) (active : Bool) (j : ℕ) where
       go None false false e = rw (rest_more (leb-false l.count j e))
 
   -- What becomes of it.
-  pub heard_is : (one : Bool) (lost : Option ℕ) → lost ≡ lost_by (suc j) one (ask_of l active j) l.lost → (held : l.count ≤ 8 * length l.frame)
-      → seat_at (not active) (suc j) (record l { lost = lost; held = held }) ≡ heard (suc j) one (seat_at active j l)
+  pub heard_is : (one : Bool) → seat_at (not active) (suc j) (record l { lost = lost_by (suc j) one (ask_of l active j) l.lost }) ≡ heard (suc j) one (seat_at active j l)
   unfolding seat_at rest_at
-  heard_is one lost e held = rw (e, ask_is) (go l.lost (eqb l.count 0) (leb l.count j) refl)
+  heard_is one = rw ask_is (go l.lost (eqb l.count 0) (leb l.count j) refl)
     where
       rest : List Pulse
       rest = rest_at (not active) (suc j) l

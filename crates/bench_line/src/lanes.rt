@@ -27,7 +27,7 @@ pub(crate) fn hear(lanes: &mut [Lane], active: bool, j: usize, one: bool) -> Opt
     let mut asked = None;
     for lane in lanes.iter_mut() {
         let ask = bench_lane::asks(lane, active, j);
-        lane.lost = bench_lane::lost_by(ask, lane.lost, j + 1, one);
+        bench_lane::hear(lane, ask, j + 1, one);
         let next = bench_lane::asks(lane, !active, j + 1);
         asked = bench_lane::taken_in(asked, next, !active);
     }
