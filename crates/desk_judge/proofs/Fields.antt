@@ -1,26 +1,27 @@
--- How the place of a tab decides what a line is: a law for each way out of the functions that judge one line.
-use Prim.Native.Nat.{ℕ, suc, ◌+◌, ◌-◌, ◌≤◌}
+-- What a line is, by how it begins and where its tab stands: a law for each way out of the functions that judge one line.
+use Prim.Native.Nat.{ℕ, suc, ◌+◌, ◌-◌, ◌<◌}
 use mathlib.Core.Path.{◌≡◌, refl, sym, ap, ◌∙◌}
-use mathlib.Core.Bool.{Bool, true, false, not, ◌&&◌, and-false}
-use mathlib.Core.List.{List, [], ◌∷◌}
+use mathlib.Core.Bool.{Bool, true, false, ◌&&◌, and-false}
+use mathlib.Core.List.{List, [], ◌∷◌, ◌++◌}
 use native.Mathlib.Numerals.{add-one}
 use native.Mathlib.Omega.{arith}
 use lib.Dec.{eqb}
+use lib.Pointwise.{pointwise}
 use lib.ListN.{length, take, drop, length-drop}
 use lib.Seq.{length-take-le}
-use borrow.Author.Tests.{not-true, not-false, eq-eqb, ne_eqb, eqb-true, eqb-false}
-use Rattle.desk_text.specs.Places.{index_of, slice}
+use borrow.Author.Tests.{eq-eqb, ne_eqb, eqb-true, eqb-false}
+use Rattle.std.specs.Prelude.{Option, Some, None}
+use Rattle.laws.specs.Tests.{never, both}
 use Rattle.label.specs.Labels.{label_byte, is_label}
-use Rattle.desk_text.specs.Grammar.{tab, fields, same, digit, is_width}
-use Rattle.desk_text.specs.Input.{own, iv, iv_line, own_line}
-use Rattle.desk_text.specs.FoundLines.{rest_all, found}
+use Rattle.desk_text.specs.declared.Labels.{Labels}
+use Rattle.desk_text.specs.Places.{index_of}
+use Rattle.desk_text.specs.Grammar.{tab, pieces, fields, same, digit, spelt, is_width}
+use Rattle.desk_text.specs.Input.{shut, field, own, iv, iv_line, own_line}
+use Rattle.desk_text.specs.FoundLines.{rest_all}
 use Rattle.desk_text.specs.PieceLaws.{pieces_first, pieces_none, Shape, one, several, shape}
-use Rattle.desk_field.specs.declared.Width.{Width}
-use Rattle.desk_field.specs.declared.Width.TheVariants.{Not}
-use Rattle.desk_judge.specs.declared.Own.{Own}
-use Rattle.desk_judge.specs.declared.Own.TheVariants.{Of as Two, Not as NoOwn}
+use Rattle.desk_text.specs.GoodLines.{iv_is, own_is}
 use Rattle.desk_judge.specs.Found.{own_by, iv_of, own_of, labels_of}
-use Rattle.desk_field.specs.Widths.{width_of}
+use Rattle.desk_field.specs.Widths.{width_by, width_of}
 
 and_true : (b : Bool) → (b && true) ≡ b
 and_true true = refl
@@ -37,80 +38,104 @@ one_fewer n = go (eqb n 2) refl
 many : (n : ℕ) → eqb (suc (suc (suc n))) 2 ≡ false
 many n = ne_eqb (suc (suc (suc n))) 2 (λ q. omega arith)
 
-module _ (s : List ℕ) (m : ℕ) (at : m ≡ 0 + index_of 9 (slice 0 (length s) s)) where
-  -- no tab at all
-  alone : m ≡ length s → fields s ≡ s ∷ []
-  alone h = pieces_none tab s (sym (found tab s m at) ∙ h)
+-- a text that begins with a word is the word and the rest
+begins : (w s : List ℕ) → pointwise eqb (take (length w) s) w ≡ true → s ≡ w ++ drop (length w) s
+begins [] s h = refl
+begins (x ∷ w) [] h = never h refl
+begins (x ∷ w) (y ∷ s) h =
+    let a = both (eqb y x) (pointwise eqb (take (length w) s) w) h in
+    let r : s ≡ w ++ drop (length w) s = begins w s a.1 in
+    rw (eqb-true y x a.0, ← r)
 
-  -- the first field ends at the tab
-  parts : m ≤ length s → (m ≡ length s → ⊥) → fields s ≡ take m s ∷ fields (drop (m + 1) s)
-  parts h n =
-      let i : m ≡ index_of tab s = found tab s m at in
-      pieces_first tab s (omega arith) ∙ rw (← i, add-one)
+-- ## An `iv` line
 
-  -- ## An `iv` line
+-- `iv` and a tab
+abbrev iv_tab : List ℕ
+iv_tab = iv ++ (tab ∷ [])
 
-  pub iv_alone : m ≡ length s → Not ≡ iv_of s
-  unfolding iv_of iv_line
-  iv_alone h = rw (alone h)
+module _ (s : List ℕ) where
+  pub iv_other : {r : Option ℕ} → pointwise eqb (take 3 s) iv_tab ≡ false → r ≡ None → r ≡ iv_of s
+  unfolding iv_of
+  iv_other h e = e ∙ go (iv_line (shut s)) refl
+    where
+      go : (b : Bool) → iv_line (shut s) ≡ b → None ≡ width_by b (spelt (field 1 (shut s)))
+      go true t = never refl (rw (iv_is (shut s) t).made at h)
+      go false t = refl
 
-  module _ (h : m ≤ length s) (n : m ≡ length s → ⊥) where
-    pub iv_other : {r : Bool} → r ≡ same (take m s) iv → not r ≡ true → Not ≡ iv_of s
-    unfolding iv_of iv_line
-    iv_other {r} e t = rw (parts h n, ← e, not-true r t, and-false)
+  width_last : (u : List ℕ) → fields s ≡ iv ∷ fields u → Shape digit tab u → width_of u ≡ iv_of s
+  unfolding iv_of iv_line width_of is_width same
+  width_last u p (one e) = rw (p, e)
+  width_last u p (several a b bs e z) = rw (p, e, many (length bs), z, and-false, and-false)
 
-    width_last : (u : List ℕ) → fields s ≡ take m s ∷ fields u → same (take m s) iv ≡ true → Shape digit tab u → width_of u ≡ iv_of s
-    unfolding iv_of iv_line width_of is_width
-    width_last u p k (one e) = rw (p, k, e)
-    width_last u p k (several a b bs e z) = rw (p, k, e, many (length bs), z, and-false, and-false)
+  pub iv_width : {w : Option ℕ} {u : List ℕ} → pointwise eqb (take 3 s) iv_tab ≡ true → u ≡ drop 3 s → w ≡ width_of u → w ≡ iv_of s
+  unfolding digit pieces
+  iv_width {u = u} h e q =
+      let b : s ≡ iv_tab ++ u = rw e (begins iv_tab s h) in
+      q ∙ width_last u (ap fields b) (shape digit tab refl u)
 
-    pub iv_width : {r : Bool} {w : Width} → r ≡ same (take m s) iv → not r ≡ false → w ≡ width_of (take (length s - (m + 1)) (drop (m + 1) s)) → w ≡ iv_of s
-    unfolding digit
-    iv_width {r} e t q = q ∙ rw (rest_all s (m + 1)) (width_last (drop (m + 1) s) (parts h n) (sym e ∙ not-false r t) (shape digit tab refl (drop (m + 1) s)))
+pub ruleset iv_laws = (iv_other, iv_width)
 
-  -- ## Two labels
+-- ## Two labels
 
-  pub labels_alone : m ≡ length s → NoOwn ≡ labels_of s
+module _ (s : List ℕ) where
+  pub labels_alone : {r : Option Labels} → index_of 9 s ≡ length s → r ≡ None → r ≡ labels_of s
   unfolding labels_of
-  labels_alone h = rw (alone h)
+  labels_alone h e = e ∙ rw (pieces_none tab s h)
 
-  module _ (h : m ≤ length s) (n : m ≡ length s → ⊥) where
-    pub labels_first : {r : Bool} → r ≡ is_label (take m s) → not r ≡ true → NoOwn ≡ labels_of s
-    unfolding labels_of
-    labels_first {r} e t = rw (parts h n, ← e, not-true r t, and-false)
+  module _ {m : ℕ} (at : m ≡ index_of 9 s) (h : m < length s) where
+    -- the first field ends at the tab
+    parts : fields s ≡ take m s ∷ fields (drop (m + 1) s)
+    parts = pieces_first tab s (omega arith) ∙ rw (← at, add-one)
 
     label_last : (u : List ℕ) → fields s ≡ take m s ∷ fields u → is_label (take m s) ≡ true → Shape label_byte tab u → own_by (is_label u) (take m s) u ≡ labels_of s
     unfolding labels_of is_label
     label_last u p k (one e) = rw (p, k, e)
     label_last u p k (several a b bs e z) = rw (p, k, e, many (length bs), z, and-false)
 
-    last : {r : Bool} → r ≡ is_label (take m s) → not r ≡ false → own_by (is_label (drop (m + 1) s)) (take m s) (drop (m + 1) s) ≡ labels_of s
+    last : is_label (take m s) ≡ true → own_by (is_label (drop (m + 1) s)) (take m s) (drop (m + 1) s) ≡ labels_of s
     unfolding label_byte
-    last {r} e t = label_last (drop (m + 1) s) (parts h n) (sym e ∙ not-false r t) (shape label_byte tab refl (drop (m + 1) s))
+    last t = label_last (drop (m + 1) s) parts t (shape label_byte tab refl (drop (m + 1) s))
 
-    pub labels_second : {q r : Bool} → r ≡ is_label (take m s) → not r ≡ false → q ≡ is_label (take (length s - (m + 1)) (drop (m + 1) s)) → not q ≡ true → NoOwn ≡ labels_of s
-    labels_second {q} e t p u = rw (← last e t, ← rest_all s (m + 1), ← p, not-true q u)
+    pub labels_first : {r : Bool} → r ≡ is_label (take m s) → r ≡ false → None ≡ labels_of s
+    unfolding labels_of
+    labels_first e t = rw (parts, ← e, t, and-false)
 
-    pub labels_both : {q r : Bool} → r ≡ is_label (take m s) → not r ≡ false → q ≡ is_label (take (length s - (m + 1)) (drop (m + 1) s)) → not q ≡ false
-        → Two (record { customer = m; vehicle = length s - (m + 1) }) ≡ labels_of s
+    pub labels_second : {q r : Bool} → r ≡ is_label (take m s) → r ≡ true → q ≡ is_label (take (length s - (m + 1)) (drop (m + 1) s)) → q ≡ false → None ≡ labels_of s
+    labels_second {q} e t p u = rw (← last (sym e ∙ t), ← rest_all s (m + 1), ← p, u)
+
+    pub labels_both : {q r : Bool} → r ≡ is_label (take m s) → r ≡ true → q ≡ is_label (take (length s - (m + 1)) (drop (m + 1) s)) → q ≡ true
+        → Some (record { customer = m; vehicle = length s - (m + 1) }) ≡ labels_of s
     labels_both {q} e t p u =
-        let k : is_label (drop (m + 1) s) ≡ true = rw (← rest_all s (m + 1)) (sym p ∙ not-false q u) in
-        let a : length (take m s) ≡ m = length-take-le m s h in
+        let k : is_label (drop (m + 1) s) ≡ true = rw (← rest_all s (m + 1)) (sym p ∙ u) in
+        let a : length (take m s) ≡ m = length-take-le m s (omega arith) in
         let b : length (drop (m + 1) s) ≡ length s - (m + 1) = length-drop (m + 1) s in
-        rw (k, a, b) at (last e t)
+        rw (k, a, b) at (last (sym e ∙ t))
 
-  -- ## An `own` line
+pub ruleset labels_laws = (labels_alone, labels_first, labels_second, labels_both)
 
-  pub own_alone : m ≡ length s → NoOwn ≡ own_of s
-  unfolding own_of own_line
-  own_alone h = rw (alone h)
+-- ## An `own` line
 
-  module _ (h : m ≤ length s) (n : m ≡ length s → ⊥) where
-    pub own_other : {r : Bool} → r ≡ same (take m s) own → not r ≡ true → NoOwn ≡ own_of s
-    unfolding own_of own_line
-    own_other {r} e t = rw (parts h n, ← e, not-true r t, and-false)
+-- `own` and a tab
+abbrev own_tab : List ℕ
+own_tab = own ++ (tab ∷ [])
 
-    pub own_labels : {r : Bool} {w : Own} → r ≡ same (take m s) own → not r ≡ false → w ≡ labels_of (take (length s - (m + 1)) (drop (m + 1) s)) → w ≡ own_of s
-    unfolding own_of own_line labels_of
-    own_labels {r} e t q =
-        q ∙ rw (rest_all s (m + 1), parts h n, sym e ∙ not-false r t, and_true, one_fewer (length (fields (drop (m + 1) s))))
+module _ (s : List ℕ) where
+  pub own_other : {r : Option Labels} → pointwise eqb (take 4 s) own_tab ≡ false → r ≡ None → r ≡ own_of s
+  unfolding own_of
+  own_other h e = e ∙ go (own_line (shut s)) refl
+    where
+      go : (b : Bool) → own_line (shut s) ≡ b → None ≡ own_by b (field 1 (shut s)) (field 2 (shut s))
+      go true t = never refl (rw (own_is (shut s) t).made at h)
+      go false t = refl
+
+  labels_last : (u : List ℕ) → fields s ≡ own ∷ fields u → labels_of u ≡ own_of s
+  unfolding own_of own_line labels_of same
+  labels_last u p = rw (p, and_true, one_fewer (length (fields u)))
+
+  pub own_labels : {w : Option Labels} {u : List ℕ} → pointwise eqb (take 4 s) own_tab ≡ true → u ≡ drop 4 s → w ≡ labels_of u → w ≡ own_of s
+  unfolding pieces
+  own_labels {u = u} h e q =
+      let b : s ≡ own_tab ++ u = rw e (begins own_tab s h) in
+      q ∙ labels_last u (ap fields b)
+
+pub ruleset own_laws = (own_other, own_labels)

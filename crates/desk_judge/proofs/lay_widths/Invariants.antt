@@ -2,8 +2,8 @@ use Rattle.desk_judge.proofs.Driving.{Left}
 use lib.ListN.{length}
 use Rattle.desk_judge.proofs.lay_widths.Given as goal
 
-abbrev pub invariant-loop-t : goal.invariant-loop-t
-invariant-loop-t l = Left l.s l.t l.initial.lent l.lent l.k
+abbrev pub invariant-loop-e : goal.invariant-loop-e
+invariant-loop-e l = Left l.s l.t l.initial.lent l.lent l.k
 
-abbrev pub decreases-loop-t : goal.decreases-loop-t
-decreases-loop-t l = length l.t
+abbrev pub decreases-loop-e : goal.decreases-loop-e
+decreases-loop-e l = length l.t
