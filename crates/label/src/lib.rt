@@ -2,63 +2,23 @@
 #![tactic(auto)]
 
 ghost use Rattle.std.specs.Prelude.{◌≡◌};
-ghost use Rattle.label.specs.Labels.{among as among_of, every, label_byte, is_label};
+ghost use Rattle.label.specs.Labels.{label_byte, is_label};
 
 // The most bytes of a label.
 const MOST_LABEL: usize = 16;
 
-// Low up to high.
-fn among(low: u8, high: u8, x: u8) -> bool
-    ensures { result ≡ among_of low high x }
-{
-    if x < low {
-        return false;
-    }
-    x <= high
-}
-
 // A letter, a digit, `-` or `_`.
+#[tactic(auto, unfolding(crate::specs::Labels::label_byte))]
 fn label_byte(x: u8) -> bool
     ensures { result ≡ label_byte x }
 {
-    if among(b'a', b'z', x) {
-        return true;
-    }
-    if among(b'A', b'Z', x) {
-        return true;
-    }
-    if among(b'0', b'9', x) {
-        return true;
-    }
-    if x == b'-' {
-        return true;
-    }
-    x == b'_'
-}
-
-// Whether every byte may stand in a label.
-fn label_bytes(s: &[u8]) -> bool
-    ensures { result ≡ every label_byte s.now }
-{
-    let mut i = 0;
-    while i < s.len() {
-        if !label_byte(s[i]) {
-            return false;
-        }
-        i += 1;
-    }
-    true
+    matches!(x, b'a'..=b'z' | b'A'..=b'Z' | b'0'..=b'9' | b'-' | b'_')
 }
 
 // 1 to 16 letters, digits, `-` or `_`.
+#[tactic(auto, using(crate::proofs::Leaves::length_bad))]
 pub fn is_label(s: &[u8]) -> bool
     ensures { result ≡ is_label s.now }
 {
-    if s.len() < 1 {
-        return false;
-    }
-    if s.len() > MOST_LABEL {
-        return false;
-    }
-    label_bytes(s)
+    (1..=MOST_LABEL).contains(&s.len()) && s.iter().all(|byte| label_byte(*byte))
 }

@@ -4,7 +4,6 @@
 #![tactic(auto)]
 
 mod checks;
-mod print;
 mod symbols;
 
 use std::io;

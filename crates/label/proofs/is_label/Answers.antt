@@ -1,13 +1,12 @@
--- `label::is_label` meets its contract: a law of `Leaves` for each way out.
-use Rattle.label.proofs.Leaves.{label_empty, label_long, label_fits}
-use borrow.Author.Rules.{rules}
+-- `label::is_label` meets its contract: where the length is good, the test of each byte decides.
+use Rattle.std.proofs.Common.{rules, tests}
+use Rattle.std.proofs.lemmas.Iterator.{YieldsList-from_slice}
+use Rattle.std.proofs.lemmas.Iterator.Search.{all_from_yields_List}
+use Rattle.label.specs.Labels.{label_byte}
+use Rattle.label.proofs.Leaves.{length_good}
 use Rattle.label.proofs.is_label.Goals as goal
 
-pub returns-then-s-lt1 : goal.returns-then-s-lt1
-returns-then-s-lt1 c = search (rules, label_empty)
-
-pub returns-then-s-gt-MOST_LABEL : goal.returns-then-s-gt-MOST_LABEL
-returns-then-s-gt-MOST_LABEL c = search (rules, label_long)
-
-pub returns : goal.returns
-returns c = search (rules, label_fits)
+pub returns-then-contains : goal.returns-then-contains
+returns-then-contains c =
+    let s = c.args.s.now in
+    length_good s (search rules) (all_from_yields_List label_byte _ _ _ c.all.ensures.ran (YieldsList-from_slice s cc) (λ x b q k. search (rules, tests)))

@@ -1,9 +1,0 @@
--- `worked::windows` ends: the width tried grows by one up to the last.
-use Rattle.std.proofs.Common.{◌-◌, ◌≤◌}
-use Rattle.worked.proofs.symbols.windows.Given as goal
-
-abbrev pub invariant-loop-width : goal.invariant-loop-width
-invariant-loop-width g l = l.width ≤ 1000001
-
-abbrev pub decreases-loop-width : goal.decreases-loop-width
-decreases-loop-width g l = 1000001 - l.width
