@@ -1,4 +1,3 @@
-mod Exits
 -- Laws.
 pub mod BitDoes
 pub mod CloseDoes

@@ -5,16 +5,15 @@
 
 mod shut;
 
-ghost use Rattle.std.specs.Prelude.{◌≡◌, ◌<◌};
-ghost use Rattle.frame.specs.Bits.{value};
-ghost use Rattle.frame_machine.specs.Steps.{faulty, begun, push_of, response_begun, part_of, sof_phase, bit_of, sof_of, step_of, fresh};
+ghost use Rattle.std.specs.Prelude.{◌≡◌};
+ghost use Rattle.frame_machine.specs.Steps.{faulty, begun, push_of, response_begun, bit_of, sof_of, step_of, fresh};
 
 use frame::{Fault, Sign};
 use shut::close_part;
 
 // Where the next interval stands in the frame: at the place of the SOF or of the normalization bit, in the main part, or
 // in a response without or with a check byte.
-#[derive(Clone, Copy)]
+#[derive(Clone, Copy, Debug, PartialEq, Eq)]
 pub enum Phase {
     Sof,
     Normalization,
@@ -25,7 +24,7 @@ pub enum Phase {
 
 // What is known of a frame between two intervals: the bits of a byte that is not whole yet, after a leading 1; the check
 // register over this part; and how many bytes both parts have so far, and how many of them stand before this part.
-#[derive(Clone, Copy)]
+#[derive(Clone, Copy, Debug, PartialEq, Eq)]
 pub struct Machine {
     pub phase: Phase,
     pub partial: u8,
@@ -35,7 +34,7 @@ pub struct Machine {
 }
 
 // What an interval does to a frame.
-#[derive(Clone, Copy)]
+#[derive(Clone, Copy, Debug, PartialEq, Eq)]
 pub enum Event {
     Going,
     Byte(u8),
@@ -46,7 +45,7 @@ pub enum Event {
 // What an interval does, and what is known of the frame after it. The event stands first, and `push`, `bit`, `sof` and
 // `close_part` are each called from one place: so the compiler keeps all of it in registers, and reading is half as long as
 // it is otherwise.
-#[derive(Clone, Copy)]
+#[derive(Clone, Copy, Debug, PartialEq, Eq)]
 pub struct Stepped {
     pub event: Event,
     pub machine: Machine,
@@ -70,22 +69,6 @@ pub fn start() -> Machine
     }
 }
 
-// The same number, as a byte.
-fn low(x: usize) -> u8
-    requires { x < 256 }
-    ensures { result ≡ x }
-{
-    x as u8
-}
-
-// The number that a bit is.
-fn number(one: bool) -> usize
-    ensures value { result ≡ value one }
-    ensures upper_bound { result < 2 }
-{
-    if one { 1 } else { 0 }
-}
-
 // The interval is at fault.
 fn fail(machine: Machine, fault: Fault) -> Stepped
     ensures { result ≡ faulty machine fault }
@@ -100,52 +83,44 @@ fn fail(machine: Machine, fault: Fault) -> Stepped
 fn begin(machine: Machine, phase: Phase) -> Stepped
     ensures { result ≡ begun machine phase }
 {
-    let so_far = machine.count;
     Stepped {
         event: Event::Going,
         machine: Machine {
             phase,
             partial: NO_BITS,
             register: checkbyte::ALL_ONES,
-            count: so_far,
-            began: so_far,
+            began: machine.count,
+            ..machine
         },
     }
 }
 
 // A bit of a byte, in either part: the first of a byte too many, one that leaves the byte open, or its last.
+#[tactic(auto, unfolding(crate::specs::Steps::push_of))]
 fn push(limit: usize, machine: Machine, one: bool) -> Stepped
     ensures { result ≡ push_of limit machine one }
 {
-    let phase = machine.phase;
-    let count = machine.count;
-    let began = machine.began;
-    let register = machine.register;
-    if limit <= count {
+    if limit <= machine.count {
         return fail(machine, Fault::ThirteenthByte);
     }
-    let bits = machine.partial as usize * 2 + number(one);
+    let bits = usize::from(machine.partial) * 2 + usize::from(one);
     if bits < WHOLE {
         return Stepped {
             event: Event::Going,
             machine: Machine {
-                phase,
-                partial: low(bits),
-                register,
-                count,
-                began,
+                partial: bits as u8,
+                ..machine
             },
         };
     }
-    let byte = low(bits - WHOLE);
+    let byte = (bits - WHOLE) as u8;
     Stepped {
         event: Event::Byte(byte),
         machine: Machine {
-            phase,
             partial: NO_BITS,
-            register: checkbyte::step(register, byte),
-            count: count + 1,
-            began,
+            register: checkbyte::step(machine.register, byte),
+            count: machine.count + 1,
+            ..machine
         },
     }
 }
@@ -154,61 +129,31 @@ fn push(limit: usize, machine: Machine, one: bool) -> Stepped
 fn begin_response(machine: Machine, one: bool) -> Stepped
     ensures { result ≡ response_begun machine one }
 {
-    if one {
-        return begin(machine, Phase::Plain);
-    }
-    begin(machine, Phase::Checked)
+    begin(machine, if one { Phase::Plain } else { Phase::Checked })
 }
 
-// Whether a phase is one of a part's bytes.
-fn in_part(phase: Phase) -> bool
-    ensures { result ≡ part_of phase }
-{
-    match phase {
-        Phase::Sof => false,
-        Phase::Normalization => false, // its one bit belongs to no byte
-        Phase::Main => true,
-        Phase::Plain => true,
-        Phase::Checked => true,
-    }
-}
-
-// Whether a phase is the SOF's.
-fn at_sof(phase: Phase) -> bool
-    ensures { result ≡ sof_phase phase }
-{
-    match phase {
-        Phase::Sof => true,
-        Phase::Normalization => false,
-        Phase::Main => false,
-        Phase::Plain => false,
-        Phase::Checked => false,
-    }
-}
-
-// A bit's width: a bit of a byte, no SOF where one should be, or the normalization bit.
+// A bit's width: a bit of a byte, no SOF where one should be, or the normalization bit, which belongs to no byte.
+#[tactic(auto, unfolding(crate::specs::Steps::bit_of))]
 fn bit(limit: usize, machine: Machine, one: bool) -> Stepped
     ensures { result ≡ bit_of limit machine one }
 {
-    let phase = machine.phase;
-    if in_part(phase) {
-        return push(limit, machine, one);
+    match machine.phase {
+        Phase::Main | Phase::Plain | Phase::Checked => push(limit, machine, one),
+        Phase::Sof => fail(machine, Fault::NoSof),
+        Phase::Normalization => begin_response(machine, one),
     }
-    if at_sof(phase) {
-        return fail(machine, Fault::NoSof);
-    }
-    begin_response(machine, one)
 }
 
 // The SOF's width: the SOF, or a fault anywhere after it.
+#[tactic(auto, unfolding(crate::specs::Steps::sof_of))]
 fn sof(machine: Machine) -> Stepped
     ensures { result ≡ sof_of machine }
 {
-    let phase = machine.phase;
-    if at_sof(phase) {
-        return begin(machine, Phase::Main);
+    if machine.phase == Phase::Sof {
+        begin(machine, Phase::Main)
+    } else {
+        fail(machine, Fault::LateSof)
     }
-    fail(machine, Fault::LateSof)
 }
 
 // One interval more, in a frame of at most `limit` bytes.

@@ -42,8 +42,7 @@ fn needed_of(phase: Phase) -> Needed
     ensures { result ≡ needed_of phase }
 {
     match phase {
-        Phase::Sof => need(0, false),
-        Phase::Normalization => need(0, false),
+        Phase::Sof | Phase::Normalization => need(0, false),
         Phase::Main => need(FEWEST_MAIN, true),
         Phase::Plain => need(FEWEST_PLAIN, false),
         Phase::Checked => need(FEWEST_CHECKED, true),
@@ -54,22 +53,19 @@ fn needed_of(phase: Phase) -> Needed
 fn after_eod(machine: Machine) -> Stepped
     ensures { result ≡ eod_of machine }
 {
-    let phase = machine.phase;
-    match phase {
+    match machine.phase {
         Phase::Sof => begin(machine, Phase::Main),
-        Phase::Normalization => begin(machine, Phase::Normalization),
-        Phase::Main => begin(machine, Phase::Normalization),
-        Phase::Plain => fail(machine, Fault::EodAfterResponse),
-        Phase::Checked => fail(machine, Fault::EodAfterResponse),
+        Phase::Normalization | Phase::Main => begin(machine, Phase::Normalization),
+        Phase::Plain | Phase::Checked => fail(machine, Fault::EodAfterResponse),
     }
 }
 
 // An EOD or an end closes a part: it has no open byte, enough bytes, and the right check byte.
+#[tactic(auto, unfolding(crate::specs::Steps::close_of))]
 pub fn close_part(machine: Machine, eod: bool) -> Stepped
     ensures { result ≡ close_of machine eod }
 {
-    let phase = machine.phase;
-    let needed = needed_of(phase);
+    let needed = needed_of(machine.phase);
     if machine.partial != NO_BITS {
         return fail(machine, Fault::SplitByte);
     }
@@ -80,7 +76,8 @@ pub fn close_part(machine: Machine, eod: bool) -> Stepped
         return fail(machine, Fault::WrongCheck);
     }
     if eod {
-        return after_eod(machine);
+        after_eod(machine)
+    } else {
+        close(machine)
     }
-    close(machine)
 }

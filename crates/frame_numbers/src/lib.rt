@@ -53,13 +53,11 @@ pub fn symbol_number(symbol: Symbol) -> u32
 pub fn kind_of(kind: u32) -> Response
     ensures { result ≡ kind_of kind }
 {
-    if kind == WITHOUT {
-        return Response::Without;
+    match kind {
+        WITHOUT => Response::Without,
+        PLAIN => Response::Plain,
+        _ => Response::Checked,
     }
-    if kind == PLAIN {
-        return Response::Plain;
-    }
-    Response::Checked
 }
 
 // The number of a kind of response.

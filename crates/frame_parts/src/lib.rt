@@ -1,7 +1,7 @@
 // The parts of a frame that closes: what the answer for it says of them, and their bytes, wherever the frame was read from.
 #![tactic(auto)]
 
-ghost use Rattle.std.specs.Prelude.{◌≡◌, ◌-◌};
+ghost use Rattle.std.specs.Prelude.{◌≡◌};
 ghost use Rattle.frame_parts.specs.Laying.{laid_of};
 ghost use Rattle.frame_parts.specs.Parts.{alone, answered, parts_of};
 
@@ -9,20 +9,10 @@ use frame::{Lengths, MOST_BYTES, Response};
 use frame_machine::{Machine, Phase};
 
 // How many bytes each part has, its check byte included, and what response there is.
-#[derive(Clone, Copy)]
+#[derive(Clone, Copy, Debug, PartialEq, Eq)]
 pub struct Parts {
     pub lengths: Lengths,
     pub response: Response,
-}
-
-// How many of the bytes stand after the first ones.
-fn past(count: usize, began: usize) -> usize
-    ensures { result ≡ count - began }
-{
-    if began < count {
-        return count - began;
-    }
-    0
 }
 
 // A frame without a response.
@@ -45,7 +35,7 @@ fn with_response(machine: Machine, response: Response) -> Parts
     Parts {
         lengths: Lengths {
             main: machine.began,
-            response: past(machine.count, machine.began),
+            response: machine.count.saturating_sub(machine.began),
         },
         response,
     }
@@ -55,11 +45,8 @@ fn with_response(machine: Machine, response: Response) -> Parts
 pub fn parts_of(machine: Machine) -> Parts
     ensures { result ≡ parts_of machine }
 {
-    let phase = machine.phase;
-    match phase {
-        Phase::Sof => main_alone(machine),
-        Phase::Normalization => main_alone(machine),
-        Phase::Main => main_alone(machine),
+    match machine.phase {
+        Phase::Sof | Phase::Normalization | Phase::Main => main_alone(machine),
         Phase::Plain => with_response(machine, Response::Plain),
         Phase::Checked => with_response(machine, Response::Checked),
     }
@@ -67,13 +54,11 @@ pub fn parts_of(machine: Machine) -> Parts
 
 // The bytes of the frame, which were kept aside, stand first in the lent bytes, whose rest stays. Where fewer are kept or
 // lent than are counted nothing is laid; no frame that was read comes to that.
+#[tactic(auto, using(crate::specs::Laying::laid_enough), unfolding(crate::specs::Laying::laid_of))]
 pub fn lay(kept: [u8; MOST_BYTES], count: usize, lent: &mut [u8])
     ensures { lent.new ≡ laid_of count kept lent.old }
 {
-    let first = count;
-    if count <= MOST_BYTES {
-        if count <= lent.len() {
-            lent[..first].copy_from_slice(&kept[..first]);
-        }
+    if count <= MOST_BYTES && count <= lent.len() {
+        lent[..count].copy_from_slice(&kept[..count]);
     }
 }

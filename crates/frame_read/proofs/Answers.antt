@@ -5,6 +5,7 @@ use mathlib.Core.List.{List}
 use native.Mathlib.Omega.{arith}
 use lib.ListN.{length, get_or, take}
 use borrow.Author.Tests.{le-leb, lt-leb}
+use Rattle.std.specs.Prelude.{Some, None}
 use Rattle.symbol.specs.declared.Symbol.{Symbol}
 use Rattle.symbol.specs.Classes.{class_of}
 use Rattle.frame.specs.declared.Fault.{Fault}
@@ -31,7 +32,8 @@ use Rattle.frame_parts.specs.PartLaws.{parts_held}
 use Rattle.frame_machine.proofs.StepDoes.{some_fault}
 use Rattle.frame_machine.proofs.Keeping.{Closing, SaysKept, kept_by}
 use Rattle.frame_machine.specs.Stated.{Keeping}
-use Rattle.frame_read.specs.Answering.{placed, frame_of, Meets}
+use Rattle.frame_read.specs.Answering.{found_by, placed, frame_of, Meets}
+use Rattle.frame_read.proofs.Searching.{opened_at, opened_none}
 
 -- ## One interval
 
@@ -60,19 +62,16 @@ module _ (l : Line) (o : ℕ) (entry lent : List ℕ) (as_lent : lent ≡ entry)
       rw (y, x ∙ laid_enough m.count kept lent v.few (omega (arith, enough, v.few)), as_lent, e, g, v.no_bit, v.holds, first, parts_held (stands l o k), count_of (stands l o k))
       (record { tells_it = refl; lends_it = refl })
 
--- ## Quiet
+-- ## From a position within the recording
 
-module _ (l : Line) (p : ℕ) (entry : List ℕ) where
-  pub quiet_meets : opening l p ≡ nowhere → Meets (read_by (opening l p) most_bytes l p) entry entry (Quiet (placed p))
-  quiet_meets e = rw e (record { tells_it = refl; lends_it = refl })
+module _ (ws : List ℕ) (p : ℕ) (entry : List ℕ) where
+  pub quiet_meets : None ≡ found_by (opening (single ws) p) → Meets (read_by (opening (single ws) p) most_bytes (single ws) p) entry entry (Quiet (placed p))
+  quiet_meets e = rw (opened_none ws p e) (record { tells_it = refl; lends_it = refl })
 
-  pub alone_meets : (o : ℕ) → l.count ≤ o + 1 → Meets (read_by (at o) most_bytes l p) entry entry (Quiet (placed p))
-  alone_meets o h = rw (le-leb l.count (o + 1) h) (record { tells_it = refl; lends_it = refl })
+  pub alone_meets : (o : ℕ) → Some o ≡ found_by (opening (single ws) p) → length ws ≤ o + 1
+      → Meets (read_by (opening (single ws) p) most_bytes (single ws) p) entry entry (Quiet (placed p))
+  alone_meets o e h = rw (opened_at ws p o e, le-leb (length ws) (o + 1) h) (record { tells_it = refl; lends_it = refl })
 
-  pub followed_meets : (o : ℕ) (exit : List ℕ) (r : Reading) → o + 1 < l.count → Meets (decided most_bytes l o) entry exit r
-      → Meets (read_by (at o) most_bytes l p) entry exit r
-  followed_meets o exit r h v = rw (lt-leb l.count (o + 1) h) v
-
-  pub opened_meets : (o : ℕ) (exit : List ℕ) (r : Reading) → opening l p ≡ at o → Meets (read_by (at o) most_bytes l p) entry exit r
-      → Meets (read_by (opening l p) most_bytes l p) entry exit r
-  opened_meets o exit r e v = rw e v
+  pub followed_meets : (o : ℕ) (exit : List ℕ) (r : Reading) → Some o ≡ found_by (opening (single ws) p) → o + 1 < length ws
+      → Meets (decided most_bytes (single ws) o) entry exit r → Meets (read_by (opening (single ws) p) most_bytes (single ws) p) entry exit r
+  followed_meets o exit r e h v = rw (opened_at ws p o e, lt-leb (length ws) (o + 1) h) v

@@ -10,14 +10,13 @@ use lib.ListN.{length, get_or}
 use borrow.Author.Tests.{eq-eqb, ne_eqb}
 use Rattle.symbol.specs.Classes.{end_of}
 use Rattle.laws.specs.Tests.{up_to}
-use Rattle.frame.specs.Line.{single, end_at, Found as FoundPlace, nowhere, at, first_in, opening}
+use Rattle.frame.specs.Line.{single, end_at, Found, nowhere, at, first_in, opening}
 use Rattle.frame.specs.Faults.{most_bytes}
 use Rattle.frame.specs.Reading.{decides}
 use Rattle.frame.proofs.ShownLaws.{end_width_law}
 use Rattle.frame.specs.FirstLaws.{first_at_law, first_empty, first_here, opening_is}
 use Rattle.frame.specs.ReadStated.{IsFirst}
-use Rattle.frame_read.specs.declared.Found.{Found}
-use Rattle.frame_read.specs.declared.Found.TheVariants.{At, Nowhere}
+use Rattle.std.specs.Prelude.{Some, None}
 use Rattle.frame_read.specs.Answering.{found_by}
 
 -- ## The interval that decides
@@ -75,22 +74,23 @@ open_here ws i r h even e b g = here ∙ go b
 
 -- ## What the search answered
 
-found_at : (f : FoundPlace) (o : ℕ) → found_by f ≡ At o → f ≡ at o
-found_at nowhere o e = cc
-found_at (at k) o e = cc
+-- an opening that was found is the first end, and none that was found is none
+pub opened_at : (ws : List ℕ) (p o : ℕ) → Some o ≡ found_by (opening (single ws) p) → opening (single ws) p ≡ at o
+opened_at ws p o e = go (opening (single ws) p) (sym e)
+  where
+    go : (f : Found) → found_by f ≡ Some o → f ≡ at o
+    go nowhere e = cc
+    go (at k) e = cc
 
-found_none : (f : FoundPlace) → found_by f ≡ Nowhere → f ≡ nowhere
-found_none nowhere e = refl
-found_none (at k) e = cc
-
-pub opened_at : (ws : List ℕ) (p o : ℕ) (r : Found) → r ≡ found_by (opening (single ws) p) → r ≡ At o → opening (single ws) p ≡ at o
-opened_at ws p o r e g = found_at (opening (single ws) p) o (sym e ∙ g)
-
-pub opened_none : (ws : List ℕ) (p : ℕ) (r : Found) → r ≡ found_by (opening (single ws) p) → r ≡ Nowhere → opening (single ws) p ≡ nowhere
-opened_none ws p r e g = found_none (opening (single ws) p) (sym e ∙ g)
+pub opened_none : (ws : List ℕ) (p : ℕ) → None ≡ found_by (opening (single ws) p) → opening (single ws) p ≡ nowhere
+opened_none ws p e = go (opening (single ws) p) (sym e)
+  where
+    go : (f : Found) → found_by f ≡ None → f ≡ nowhere
+    go nowhere e = refl
+    go (at k) e = cc
 
 -- an opening stands in the recording
-pub opened_in : (ws : List ℕ) (p o : ℕ) → p ≤ length ws → opening (single ws) p ≡ at o → o < length ws
+pub opened_in : (ws : List ℕ) (p o : ℕ) → p ≤ length ws → Some o ≡ found_by (opening (single ws) p) → o < length ws
 opened_in ws p o h e =
-    let f : IsFirst (end_at (single ws)) p (length ws - p) o = first_at_law (end_at (single ws)) p (length ws - p) o (sym (opening_is (single ws) p) ∙ e) in
+    let f : IsFirst (end_at (single ws)) p (length ws - p) o = first_at_law (end_at (single ws)) p (length ws - p) o (sym (opening_is (single ws) p) ∙ opened_at ws p o e) in
     omega (arith, f.before)

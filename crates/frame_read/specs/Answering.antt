@@ -1,20 +1,18 @@
 -- Machinery.
 -- What the pieces of reading answer: the search for an opening, the frame that is closed, and the lent bytes.
-use Rattle.std.specs.Prelude.{ℕ, ◌≡◌, List, Ok}
+use Rattle.std.specs.Prelude.{ℕ, ◌≡◌, List, Option, Some, None, Ok}
 use Rattle.units.specs.declared.Place.{Place}
 use Rattle.frame.specs.declared.Reading.{Reading}
 use Rattle.frame.specs.declared.Reading.TheVariants.{Frame}
-use Rattle.frame.specs.Line.{Found as FoundPlace, nowhere, at}
+use Rattle.frame.specs.Line.{Found, nowhere, at}
 use Rattle.frame.specs.Reading.{Outcome}
 use Rattle.frame.specs.ReadPromise.{told, tells, lent_after}
-use Rattle.frame_read.specs.declared.Found.{Found}
-use Rattle.frame_read.specs.declared.Found.TheVariants.{At, Nowhere}
 use Rattle.frame_parts.specs.declared.Parts.{Parts}
 
 -- what a search answers for a first place
-abbrev pub found_by : FoundPlace → Found
-found_by nowhere = Nowhere
-found_by (at o) = At o
+abbrev pub found_by : Found → Option ℕ
+found_by nowhere = None
+found_by (at o) = Some o
 
 -- a place by its number
 abbrev pub placed : ℕ → Place

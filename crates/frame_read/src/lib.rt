@@ -5,7 +5,7 @@
 
 ghost use Rattle.std.specs.Prelude.{◌≡◌, ◌≤◌, ◌<◌, length};
 ghost use Rattle.frame.specs.Faults.{most_bytes};
-ghost use Rattle.frame.specs.Line.{single, at, opening as opening_of};
+ghost use Rattle.frame.specs.Line.{single, opening as opening_of};
 ghost use Rattle.frame.specs.Reading.{decided, read_by};
 ghost use Rattle.frame.specs.ReadPromise.{ReadPromise};
 ghost use Rattle.frame_parts.specs.Parts.{parts_of};
@@ -13,40 +13,30 @@ ghost use Rattle.frame_read.specs.Answering.{found_by, frame_of, Meets};
 
 use frame::{MOST_BYTES, ReadRefusal, Reading};
 use frame_machine::{Event, Machine};
+use frame_parts::Parts;
 use units::{Micros, Place};
 
 // The level of the even places.
 const PASSIVE: bool = false;
 
-// Where a search ends.
-#[derive(Clone, Copy)]
-enum Found {
-    At(usize),
-    Nowhere,
-}
-
 // The first end at or after a place. Ends are passive, so the even places are all that is looked at.
-fn opening(intervals: &[u32], from: usize) -> Found
+fn opening(intervals: &[u32], from: usize) -> Option<usize>
     requires { from ≤ length intervals.now }
     ensures { result ≡ found_by (opening_of (single intervals.now) from) }
 {
-    let mut i = from + from % 2;
-    while i < intervals.len() {
+    for i in (from + from % 2..intervals.len()).step_by(2) {
         if symbol::is_end(PASSIVE, Micros(intervals[i])) {
-            return Found::At(i);
+            return Some(i);
         }
-        i += 2;
     }
-    Found::Nowhere
+    None
 }
 
 // The answer for a frame that is closed: its parts, where it opens, and its closing end, from which reading goes on.
 fn framed(machine: Machine, opening: usize, closing: usize) -> Reading
     ensures { result ≡ frame_of (parts_of machine) opening closing }
 {
-    let parts = frame_parts::parts_of(machine);
-    let lengths = parts.lengths;
-    let response = parts.response;
+    let Parts { lengths, response } = frame_parts::parts_of(machine);
     Reading::Frame {
         lengths,
         response,
@@ -63,22 +53,16 @@ fn read_open(intervals: &[u32], opening: usize, lent: &mut [u8]) -> Reading
 {
     let mut kept = [0u8; MOST_BYTES];
     let mut held = frame_machine::start();
-    let mut i = opening + 1;
-    while i < intervals.len() {
+    for i in opening + 1..intervals.len() {
         let symbol = symbol::class(i % 2 == 1, Micros(intervals[i]));
         let at = held.count;
         let stepped = frame_machine::step(MOST_BYTES, held, frame_tests::sign_of(symbol));
-        let event = stepped.event;
-        let next = stepped.machine;
-        held = next;
-        match event {
+        held = stepped.machine;
+        match stepped.event {
             Event::Going => {}
-            Event::Byte(byte) => {
-                kept[at] = byte;
-            }
+            Event::Byte(byte) => kept[at] = byte,
             Event::Closed => {
-                let count = held.count;
-                frame_parts::lay(kept, count, lent);
+                frame_parts::lay(kept, held.count, lent);
                 return framed(held, opening, i);
             }
             Event::Faulty(fault) => {
@@ -88,36 +72,22 @@ fn read_open(intervals: &[u32], opening: usize, lent: &mut [u8]) -> Reading
                 };
             }
         }
-        i += 1;
     }
     Reading::Unfinished {
         opening: Place(opening),
     }
 }
 
-// Reading from a position where the opening is found: quiet, if no interval stands after it.
-#[tactic(auto, using(crate::proofs::Answers::alone_meets, crate::proofs::Answers::followed_meets))]
-fn read_found(intervals: &[u32], from: usize, opening: usize, lent: &mut [u8]) -> Reading
-    requires opening_in_bounds { opening < length intervals.now }
-    requires most_bytes_in_bounds { most_bytes ≤ length lent.old }
-    ensures { Meets (read_by (at opening) most_bytes (single intervals.now) from) lent.old lent.new result }
-{
-    if intervals.len() <= opening + 1 {
-        return Reading::Quiet { next: Place(from) };
-    }
-    read_open(intervals, opening, lent)
-}
-
-// Reading from a position within the recording: quiet, if there is no opening.
+// Reading from a position within the recording: quiet, if there is no opening, or no interval after it.
+#[tactic(auto, using(crate::proofs::Searching::opened_in, crate::proofs::Answers::quiet_meets, crate::proofs::Answers::alone_meets, crate::proofs::Answers::followed_meets))]
 fn read_from(intervals: &[u32], from: usize, lent: &mut [u8]) -> Reading
     requires from_in_bounds { from ≤ length intervals.now }
     requires most_bytes_in_bounds { most_bytes ≤ length lent.old }
     ensures { Meets (read_by (opening_of (single intervals.now) from) most_bytes (single intervals.now) from) lent.old lent.new result }
 {
-    let found = opening(intervals, from);
-    match found {
-        Found::Nowhere => Reading::Quiet { next: Place(from) },
-        Found::At(o) => read_found(intervals, from, o, lent),
+    match opening(intervals, from) {
+        Some(opening) if opening + 1 < intervals.len() => read_open(intervals, opening, lent),
+        _ => Reading::Quiet { next: Place(from) },
     }
 }
 

@@ -19,8 +19,7 @@ pub fn sign_of(symbol: Symbol) -> Sign
         Symbol::Bit1 => Sign::Bit(true),
         Symbol::Eod => Sign::Shut(true),
         Symbol::Sof => Sign::Sof,
-        Symbol::Eof => Sign::Shut(false),
-        Symbol::Ifs => Sign::Shut(false),
+        Symbol::Eof | Symbol::Ifs => Sign::Shut(false),
         Symbol::Break => Sign::Wrong(Fault::Break),
         Symbol::Stuck => Sign::Wrong(Fault::Stuck),
     }
@@ -30,18 +29,12 @@ pub fn sign_of(symbol: Symbol) -> Sign
 pub fn wrong_check(checked: bool, register: u8) -> bool
     ensures { result ≡ (checked && not (eqb register residue)) }
 {
-    if checked {
-        return register != checkbyte::RESIDUE;
-    }
-    false
+    checked && register != checkbyte::RESIDUE
 }
 
 // Whether a part has fewer bytes than are asked of it.
 pub fn too_few(count: usize, began: usize, fewest: usize) -> bool
     ensures { result ≡ ltb count (began + fewest) }
 {
-    if count < fewest {
-        return true;
-    }
-    count - fewest < began
+    count < fewest || count - fewest < began // a sum of the two might not fit
 }

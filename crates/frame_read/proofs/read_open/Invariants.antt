@@ -1,4 +1,4 @@
-use Prim.Native.Nat.{◌+◌, ◌-◌, ◌≤◌}
+use Prim.Native.Nat.{◌+◌}
 use mathlib.Core.Path.{◌≡◌}
 use lib.ListN.{length}
 use Rattle.frame.specs.Line.{single, first_in}
@@ -8,7 +8,4 @@ use Rattle.frame_machine.specs.Stated.{Keeping}
 use Rattle.frame_read.proofs.read_open.Given as goal
 
 abbrev pub invariant-loop-i : goal.invariant-loop-i
-invariant-loop-i l = (l.i ≤ length l.intervals) × (l.lent ≡ l.initial.lent) × Keeping most_bytes (single l.intervals) l.opening l.i l.held l.kept × (first_in (decides most_bytes (single l.intervals) l.opening) (l.opening + 1) (length l.intervals) ≡ first_in (decides most_bytes (single l.intervals) l.opening) l.i (length l.intervals))
-
-abbrev pub decreases-loop-i : goal.decreases-loop-i
-decreases-loop-i l = length l.intervals - l.i
+invariant-loop-i l = (l.lent ≡ l.initial.lent) × Keeping most_bytes (single l.intervals) l.opening l.i l.held l.kept × (first_in (decides most_bytes (single l.intervals) l.opening) (l.opening + 1) (length l.intervals) ≡ first_in (decides most_bytes (single l.intervals) l.opening) l.i (length l.intervals))
