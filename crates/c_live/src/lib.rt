@@ -26,7 +26,7 @@ pub extern "C" fn j1850_hear(live: &mut Live, width: u32, bytes: &mut [u8]) -> H
         × (live.new ≡ (fed_of live.old width (length bytes.old)).live)
         × (bytes.new ≡ lent_of live.old width bytes.old) }
 {
-    c_live_answers::heard_as(live_lent::hear(live, Micros(width), bytes))
+    live_lent::hear(live, Micros(width), bytes).into()
 }
 
 // Whether a frame has begun and is unfinished, at the moment of asking.
@@ -34,5 +34,5 @@ pub extern "C" fn j1850_hear(live: &mut Live, width: u32, bytes: &mut [u8]) -> H
 pub extern "C" fn j1850_ask(live: &Live) -> AskedAnswer
     ensures { result ≡ asked_as (asked_of live.now) }
 {
-    c_live_answers::asked_as(live_lent::ask(live))
+    live_lent::ask(live).into()
 }

@@ -1,8 +1,9 @@
 -- Definitions.
 -- What the exported calls on a live reader give: its answers with the documents' number first.
-use Rattle.std.specs.Prelude.{ℕ, List, [], ◌∷◌}
+use Rattle.std.specs.Prelude.{ℕ, List, [], ◌∷◌, Result}
 use Rattle.frame.specs.ReadPromise.{Told}
 use Rattle.live_answer.specs.declared.Heard.{Heard}
+use Rattle.live_answer.specs.declared.HearRefusal.{HearRefusal}
 use Rattle.live.specs.declared.Asked.{Asked}
 use Rattle.live.specs.Promise.{told_by, asked_told}
 use Rattle.c_live_answers.specs.declared.HeardAnswer.{HeardAnswer}
@@ -21,7 +22,7 @@ heard_told (t ∷ ts) =
     record { number = t.number; kind = kind_number t.response; next = t.next; opening = t.opening; main = t.main_length; response = t.response_length }
 
 -- the answer of an interval
-abbrev pub heard_as : Heard → HeardAnswer
+abbrev pub heard_as : Result Heard HearRefusal → HeardAnswer
 heard_as h = heard_told (told_by h)
 
 -- asking, by the papers' number and values: 1 and the position from which reading goes on, or 2 and the opening

@@ -2,15 +2,15 @@
 #![tactic(auto)]
 
 ghost use Rattle.std.specs.Prelude.{◌≡◌};
-ghost use Rattle.c_live_answers.specs.Answers.{heard_as, asked_as, heard_bare};
+ghost use Rattle.c_live_answers.specs.Answers.{heard_bare};
 
 use frame_numbers::{DONE, FEW_LENT, QUIET, UNFINISHED, WITHOUT};
 use live::Asked;
-use live_answer::Heard;
+use live_answer::{HearRefusal, Heard};
 
 // What an interval answers. A value that the answer does not have is 0.
 #[repr(C)]
-#[derive(Clone, Copy)]
+#[derive(Clone, Copy, Debug, PartialEq, Eq)]
 pub struct HeardAnswer {
     pub number: u32,
     pub kind: u32,
@@ -22,7 +22,7 @@ pub struct HeardAnswer {
 
 // What asking answers. A quiet reader has no opening: 0.
 #[repr(C)]
-#[derive(Clone, Copy)]
+#[derive(Clone, Copy, Debug, PartialEq, Eq)]
 pub struct AskedAnswer {
     pub number: u32,
     pub next: u64,
@@ -36,27 +36,33 @@ const PAST_PLACES: u32 = 51;
 const NOTHING_YET: u32 = 63;
 
 // What an interval answers.
-pub fn heard_as(heard: Heard) -> HeardAnswer
-    ensures { result ≡ heard_as heard }
-{
-    match heard {
-        Heard::Nothing => bare(NOTHING_YET, 0),
-        Heard::Frame {
-            lengths,
-            response,
-            opening,
-            next,
-        } => HeardAnswer {
-            number: DONE,
-            kind: frame_numbers::kind_number(response),
-            next: next.0,
-            opening: opening.0,
-            main: lengths.main,
-            response: lengths.response,
-        },
-        Heard::Faulty { fault, next } => bare(frame_numbers::fault_number(fault), next.0),
-        Heard::PastPlaces => bare(PAST_PLACES, 0),
-        Heard::FewLentBytes => bare(FEW_LENT, 0),
+impl From<Result<Heard, HearRefusal>> for HeardAnswer {
+    ghost use Rattle.c_live_answers.specs.Answers.{heard_as};
+
+    ghost from_gives = { λ heard answer. answer ≡ heard_as heard };
+
+    fn from(heard: Result<Heard, HearRefusal>) -> HeardAnswer {
+        match heard {
+            Ok(Heard::Nothing) => bare(NOTHING_YET, 0),
+            Ok(
+                Heard::Frame {
+                    lengths,
+                    response,
+                    opening,
+                    next,
+                },
+            ) => HeardAnswer {
+                number: DONE,
+                kind: frame_numbers::kind_number(response),
+                next: next.0,
+                opening: opening.0,
+                main: lengths.main,
+                response: lengths.response,
+            },
+            Ok(Heard::Faulty { fault, next }) => bare(frame_numbers::fault_number(fault), next.0),
+            Err(HearRefusal::PastPlaces) => bare(PAST_PLACES, 0),
+            Err(HearRefusal::FewLentBytes) => bare(FEW_LENT, 0),
+        }
     }
 }
 
@@ -75,19 +81,23 @@ fn bare(number: u32, next: u64) -> HeardAnswer
 }
 
 // What asking answers.
-pub fn asked_as(asked: Asked) -> AskedAnswer
-    ensures { result ≡ asked_as asked }
-{
-    match asked {
-        Asked::Quiet { next } => AskedAnswer {
-            number: QUIET,
-            next: next.0,
-            opening: 0,
-        },
-        Asked::Unfinished { opening } => AskedAnswer {
-            number: UNFINISHED,
-            next: opening.0,
-            opening: opening.0,
-        },
+impl From<Asked> for AskedAnswer {
+    ghost use Rattle.c_live_answers.specs.Answers.{asked_as};
+
+    ghost from_gives = { λ asked answer. answer ≡ asked_as asked };
+
+    fn from(asked: Asked) -> AskedAnswer {
+        match asked {
+            Asked::Quiet { next } => AskedAnswer {
+                number: QUIET,
+                next: next.0,
+                opening: 0,
+            },
+            Asked::Unfinished { opening } => AskedAnswer {
+                number: UNFINISHED,
+                next: opening.0,
+                opening: opening.0,
+            },
+        }
     }
 }

@@ -1,6 +1,6 @@
 -- Laws.
 -- Whatever a reader's bytes are, also such as no call has left there: a frame that it tells of has at most twelve bytes.
-use Rattle.std.specs.Prelude.{ℕ, ◌+◌, ◌≤◌, Bool, true, false, cond, not, eqb, ltb}
+use Rattle.std.specs.Prelude.{ℕ, ◌+◌, ◌≤◌, Bool, true, false, cond, not, eqb, ltb, Result, Ok, Err}
 use Rattle.std.proofs.Common.{arith}
 use Rattle.frame.specs.Faults.{most_bytes}
 use Rattle.frame_machine.specs.declared.Phase.{Phase}
@@ -12,7 +12,9 @@ use Rattle.frame_parts.specs.Parts.{parts_in, parts_of}
 use Rattle.live_held.specs.declared.Inside.{Inside}
 use Rattle.live_held.specs.declared.Live.{Live}
 use Rattle.live_answer.specs.declared.Heard.{Heard}
-use Rattle.live_answer.specs.declared.Heard.TheVariants.{Nothing, Frame, Faulty, PastPlaces, FewLentBytes}
+use Rattle.live_answer.specs.declared.Heard.TheVariants.{Nothing, Frame, Faulty}
+use Rattle.live_answer.specs.declared.HearRefusal.{HearRefusal}
+use Rattle.live_answer.specs.declared.HearRefusal.TheVariants.{PastPlaces, FewLentBytes}
 use Rattle.live_held.specs.HeldLaws.{held_few, held_within}
 use Rattle.live_held.specs.Reader.{held_by}
 use Rattle.live_taken.specs.Taken.{fed_by, step_at, ends_at, waiting}
@@ -20,12 +22,11 @@ use Rattle.live.specs.Feeding.{taken_of, refused_by, fed_of}
 use Rattle.live_held.specs.Held.{no_frame}
 
 -- how many bytes an answer tells of
-abbrev pub bytes_told : Heard → ℕ
-bytes_told Nothing = 0
-bytes_told (Frame lengths response opening next) = lengths.main + lengths.response
-bytes_told (Faulty fault next) = 0
-bytes_told PastPlaces = 0
-bytes_told FewLentBytes = 0
+abbrev pub bytes_told : Result Heard HearRefusal → ℕ
+bytes_told (Ok Nothing) = 0
+bytes_told (Ok (Frame lengths response opening next)) = lengths.main + lengths.response
+bytes_told (Ok (Faulty fault next)) = 0
+bytes_told (Err why) = 0
 
 in_parts : (p : Phase) (m : Machine) → m.began ≤ m.count → (parts_in p m).lengths.main + (parts_in p m).lengths.response ≤ m.count
 in_parts Sof m h = omega arith

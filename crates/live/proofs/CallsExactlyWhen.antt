@@ -1,7 +1,7 @@
 -- Laws.
 -- When a call on a live reader gives which answer, by the number that it tells: 0, each fault, 51, 32 and nothing yet at an
 -- interval, 1 and 2 when asked, each exactly when the papers say so. The reader was started, and any calls were made on it.
-use Rattle.std.specs.Prelude.{ℕ, zero, suc, ◌+◌, ◌≤◌, ◌<◌, ◌≡◌, refl, Bool, true, false, ◌↔◌, ◌⊎◌, eqb, length}
+use Rattle.std.specs.Prelude.{ℕ, zero, suc, ◌+◌, ◌≤◌, ◌<◌, ◌≡◌, refl, Bool, true, false, ◌↔◌, ◌⊎◌, eqb, length, Result, Ok, Err}
 use Rattle.std.proofs.Common.{sym, ap, subst, ◌∙◌, inl, inr, arith, eqb-true}
 use mathlib.Core.List.{List, [], ◌∷◌, ◌++◌, map, append_assoc, append_cancel_left, head-eq_of_cons-eq, tail-eq_of_cons-eq, cons≢nil, nil≢cons}
 use Rattle.std.proofs.lemmas.Bool.{eqb-false}
@@ -19,7 +19,9 @@ use Rattle.frame.specs.ReadingOn.{last, more, reads_once, reads_through}
 use Rattle.frame.proofs.RecordingOn.{ReadsOn, reads_on, stops}
 use Rattle.live_held.specs.declared.Live.{Live}
 use Rattle.live_answer.specs.declared.Heard.{Heard}
-use Rattle.live_answer.specs.declared.Heard.TheVariants.{Nothing, Frame, Faulty, PastPlaces, FewLentBytes}
+use Rattle.live_answer.specs.declared.Heard.TheVariants.{Nothing, Frame, Faulty}
+use Rattle.live_answer.specs.declared.HearRefusal.{HearRefusal}
+use Rattle.live_answer.specs.declared.HearRefusal.TheVariants.{PastPlaces, FewLentBytes}
 use Rattle.live_answer.specs.declared.Fed.{Fed}
 use Rattle.live.specs.declared.Asked.{Asked}
 use Rattle.live.specs.Feeding.{started, fed_of, asked_of}
@@ -76,30 +78,28 @@ abbrev number_of : Outcome → ℕ
 number_of x = (tells x).number
 
 -- A refusal tells its number ..
-refused_number : (h : Heard) → 0 < refusal h → number_told h ≡ refusal h ∷ []
-refused_number Nothing some = absurd (omega arith)
-refused_number (Frame lengths response opening next) some = absurd (omega arith)
-refused_number (Faulty fault next) some = absurd (omega arith)
-refused_number PastPlaces some = refl
-refused_number FewLentBytes some = refl
+refused_number : (h : Result Heard HearRefusal) → 0 < refusal h → number_told h ≡ refusal h ∷ []
+refused_number (Ok heard) some = absurd (omega arith)
+refused_number (Err PastPlaces) some = refl
+refused_number (Err FewLentBytes) some = refl
 
 -- .. and every other number told is that of a row which tells it, up to 20.
-own_row : (h : Heard) (n : ℕ) → refusal h ≡ 0 → number_told h ≡ n ∷ [] → (n ∷ [] ≡ at_interval n) × (n ≤ 20)
-own_row Nothing n z e = absurd (nil≢cons e)
-own_row (Frame lengths response opening next) n z e = rw (← (head-eq_of_cons-eq e)) (refl, omega arith)
-own_row (Faulty fault next) n z e =
+own_row : (h : Result Heard HearRefusal) (n : ℕ) → refusal h ≡ 0 → number_told h ≡ n ∷ [] → (n ∷ [] ≡ at_interval n) × (n ≤ 20)
+own_row (Ok Nothing) n z e = absurd (nil≢cons e)
+own_row (Ok (Frame lengths response opening next)) n z e = rw (← (head-eq_of_cons-eq e)) (refl, omega arith)
+own_row (Ok (Faulty fault next)) n z e =
     let range = named_range (fault_number fault) (record { fault_is = fault; number_is = refl }) in
     rw (← (head-eq_of_cons-eq e)) (rw (other_number fault 1 (inl (omega arith)), other_number fault 2 (inl (omega arith))), range.1)
-own_row PastPlaces n z e = absurd (omega (arith, z))
-own_row FewLentBytes n z e = absurd (omega (arith, z))
+own_row (Err PastPlaces) n z e = absurd (omega (arith, z))
+own_row (Err FewLentBytes) n z e = absurd (omega (arith, z))
 
 -- what an interval that is taken tells, by what is read of the recording with it
-pub record ByRow (h : Heard) (x : Outcome) : Type 0 where
+pub record ByRow (h : Result Heard HearRefusal) (x : Outcome) : Type 0 where
   pub tells_row : number_told h ≡ at_interval (number_of x)
   pub small : number_of x ≤ 20
 
 -- Rows 1 and 2 tell nothing yet.
-nothing_yet : (h : Heard) (x : Outcome) → number_told h ≡ [] → (number_of x ≡ 1) ⊎ (number_of x ≡ 2) → ByRow h x
+nothing_yet : (h : Result Heard HearRefusal) (x : Outcome) → number_told h ≡ [] → (number_of x ≡ 1) ⊎ (number_of x ≡ 2) → ByRow h x
 nothing_yet h x t (inl e) = record { tells_row = t ∙ rw e; small = rw e (omega arith) }
 nothing_yet h x t (inr e) = record { tells_row = t ∙ rw e; small = rw e (omega arith) }
 
@@ -124,7 +124,7 @@ module _ (ws : List ℕ) (xs : List Outcome) (v : Live) (heard : Hears (single w
 
   module _ (entry : List ℕ) where
     -- the answer
-    abbrev answer : Heard
+    abbrev answer : Result Heard HearRefusal
     answer = (fed_of v w (length entry)).heard
 
     rule_some : (n : ℕ) → FirstToHold n (rules_after ws (length entry)) → 0 < n
@@ -200,7 +200,7 @@ stops_there cs =
 -- Any calls were made on a started reader, and reading the intervals that were not refused stops at p.
 module _ (cs : List LiveCall) (p : ℕ) (s : StopsAt (heard_in cs) p) where
   -- The number that an interval tells, or that it tells none yet, exactly when: one law for 0, 11 to 20, 51, 32 and nothing yet.
-  pub hear_row : (w : ℕ) (entry : List ℕ) {r : Heard} → r ≡ (fed_of (after_calls started cs) w (length entry)).heard
+  pub hear_row : (w : ℕ) (entry : List ℕ) {r : Result Heard HearRefusal} → r ≡ (fed_of (after_calls started cs) w (length entry)).heard
       → (ns : List ℕ) → (number_told r ≡ ns) ↔ HearTells (heard_in cs) p w (length entry) ns
   hear_row w entry {r} q ns =
       let so = heard_so_far cs in

@@ -1,7 +1,7 @@
 -- Laws.
 -- When an interval is refused: 51 where there is no place for it, then 32 where under twelve bytes are lent; and that a
 -- refusal changes nothing.
-use Rattle.std.specs.Prelude.{ℕ, ◌<◌, ◌≡◌, refl, Bool, true, false, cond, not, List, [], ◌∷◌, eqb, ltb, length}
+use Rattle.std.specs.Prelude.{ℕ, ◌<◌, ◌≡◌, refl, Bool, true, false, cond, not, List, [], ◌∷◌, eqb, ltb, length, Result, Ok, Err}
 use Rattle.std.proofs.Common.{◌∙◌, arith, lt-ltb, le-ltb, ne_eqb}
 use Rattle.laws.specs.Tests.{never}
 use Rattle.laws.specs.Rules.{first_rule, FirstToHold, TurnedAway}
@@ -15,7 +15,8 @@ use Rattle.frame_machine.specs.declared.Event.{Event}
 use Rattle.frame_machine.specs.declared.Event.TheVariants.{Going, Byte, Closed, Faulty as FaultyEvent}
 use Rattle.live_held.specs.declared.Live.{Live}
 use Rattle.live_answer.specs.declared.Heard.{Heard}
-use Rattle.live_answer.specs.declared.Heard.TheVariants.{Nothing, Frame, Faulty, PastPlaces, FewLentBytes}
+use Rattle.live_answer.specs.declared.HearRefusal.{HearRefusal}
+use Rattle.live_answer.specs.declared.HearRefusal.TheVariants.{PastPlaces, FewLentBytes}
 use Rattle.live_taken.specs.Taken.{waiting, fed_by, step_at, ends_at}
 use Rattle.live.specs.Feeding.{refused_by, taken_of, fed_of, laid_of, lent_of}
 use Rattle.live_held.specs.Held.{last_place, no_frame}
@@ -23,19 +24,15 @@ use Rattle.live.specs.Promise.{told_by, refusal, hear_rules, past_last, says_ful
 use Rattle.live.specs.Hearing.{Counts, place_left, all_heard_law, Hears}
 
 -- A refusal is told by its number, and by nothing else.
-pub refusal_51 : (h : Heard) → refusal h ≡ 51 → told_by h ≡ bare 51 0 0 ∷ []
-refusal_51 Nothing e = absurd (omega (arith, e))
-refusal_51 (Frame lengths response opening next) e = absurd (omega (arith, e))
-refusal_51 (Faulty fault next) e = absurd (omega (arith, e))
-refusal_51 PastPlaces e = refl
-refusal_51 FewLentBytes e = absurd (omega (arith, e))
+pub refusal_51 : (h : Result Heard HearRefusal) → refusal h ≡ 51 → told_by h ≡ bare 51 0 0 ∷ []
+refusal_51 (Ok heard) e = absurd (omega (arith, e))
+refusal_51 (Err PastPlaces) e = refl
+refusal_51 (Err FewLentBytes) e = absurd (omega (arith, e))
 
-pub refusal_32 : (h : Heard) → refusal h ≡ 32 → told_by h ≡ bare 32 0 0 ∷ []
-refusal_32 Nothing e = absurd (omega (arith, e))
-refusal_32 (Frame lengths response opening next) e = absurd (omega (arith, e))
-refusal_32 (Faulty fault next) e = absurd (omega (arith, e))
-refusal_32 PastPlaces e = absurd (omega (arith, e))
-refusal_32 FewLentBytes e = refl
+pub refusal_32 : (h : Result Heard HearRefusal) → refusal h ≡ 32 → told_by h ≡ bare 32 0 0 ∷ []
+refusal_32 (Ok heard) e = absurd (omega (arith, e))
+refusal_32 (Err PastPlaces) e = absurd (omega (arith, e))
+refusal_32 (Err FewLentBytes) e = refl
 
 by_taken : (e : Event) (v : Live) (m : Machine) (b : Bool) → refusal (fed_by e v m b).heard ≡ 0
 by_taken Going v m b = refl

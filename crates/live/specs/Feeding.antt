@@ -1,13 +1,13 @@
 -- Machinery.
 -- One interval more for a live reader, as the code takes it: document 02, request 1. What it has to do with reading the
 -- whole recording is shown in Whole.antt.
-use Rattle.std.specs.Prelude.{ℕ, cond, not, List, eqb, leb, ltb, length, replicate}
+use Rattle.std.specs.Prelude.{ℕ, cond, not, List, eqb, leb, ltb, length, replicate, Result, Ok, Err}
 use Rattle.frame.specs.Faults.{most_bytes}
 use Rattle.frame_machine.specs.declared.Phase.TheVariants.{Sof}
 use Rattle.live_held.specs.declared.Live.{Live}
 use Rattle.live_held.specs.Held.{no_frame, phase_number, outside}
-use Rattle.live_answer.specs.declared.Heard.{Heard}
-use Rattle.live_answer.specs.declared.Heard.TheVariants.{Nothing, PastPlaces, FewLentBytes}
+use Rattle.live_answer.specs.declared.HearRefusal.{HearRefusal}
+use Rattle.live_answer.specs.declared.HearRefusal.TheVariants.{PastPlaces, FewLentBytes}
 use Rattle.live_answer.specs.declared.Fed.{Fed}
 use Rattle.live_answer.specs.Answered.{long_place}
 use Rattle.live_taken.specs.Taken.{fed_by, step_at, ends_at, waiting, laid_by}
@@ -28,12 +28,12 @@ taken_of v w =
     (fed_by (step_at v w).event v (step_at v w).machine (ends_at v w))
 
 -- an interval that is refused
-abbrev pub refused_by : Live → Heard → Fed
-refused_by v h = record { heard = h; live = v }
+abbrev pub refused_by : Live → HearRefusal → Fed
+refused_by v why = record { heard = Err why; live = v }
 
 -- the refusal of an interval with so many bytes lent, and nothing where it is taken
-unfoldable pub refusal_of : Live → (lent : ℕ) → Heard
-refusal_of v lent = cond (not (eqb v.places.full 0)) PastPlaces (cond (ltb lent most_bytes) FewLentBytes Nothing)
+unfoldable pub refusal_of : Live → (lent : ℕ) → Result (Unit {0}) HearRefusal
+refusal_of v lent = cond (not (eqb v.places.full 0)) (Err PastPlaces) (cond (ltb lent most_bytes) (Err FewLentBytes) (Ok tt))
 
 -- An interval of the width w, with so many bytes lent: 51 for one "past the last" place, then 32, "judged last on every
 -- interval".

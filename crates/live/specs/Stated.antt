@@ -1,6 +1,6 @@
 -- Definitions.
 -- What the theorems on when a live reader gives which answer are stated with.
-use Rattle.std.specs.Prelude.{ℕ, ◌≡◌, false, cond, ◌||◌, List, [], ◌∷◌, map, eqb, length}
+use Rattle.std.specs.Prelude.{ℕ, ◌≡◌, false, cond, ◌||◌, List, [], ◌∷◌, map, eqb, length, Result}
 use Rattle.laws.specs.Rules.{Rule, FirstToHold, NoneHolds}
 use Rattle.frame.specs.Line.{single}
 use Rattle.frame.specs.Faults.{most_bytes}
@@ -8,6 +8,7 @@ use Rattle.frame.specs.Reading.{Outcome, reading}
 use Rattle.frame.specs.ReadPromise.{Told}
 use Rattle.frame.specs.ReadStated.{goes_on, Answers}
 use Rattle.live_answer.specs.declared.Heard.{Heard}
+use Rattle.live_answer.specs.declared.HearRefusal.{HearRefusal}
 use Rattle.live.specs.Promise.{told_by, hear_rules, past_last}
 use Rattle.live.specs.Hearing.{ToldSoFar}
 use Rattle.live.specs.Feeding.{started}
@@ -18,7 +19,7 @@ abbrev pub heard_in : List LiveCall → List ℕ
 heard_in cs = recording (taken_in started cs)
 
 -- the number that an interval's answer tells, and none where it decides nothing yet
-abbrev pub number_told : Heard → List ℕ
+abbrev pub number_told : Result Heard HearRefusal → List ℕ
 number_told h = map (λ (t : Told). t.number) (told_by h)
 
 -- Reading the intervals ws on from 0 stops at p: frames and faults lead there, and from p there is none.

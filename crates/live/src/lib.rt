@@ -3,10 +3,10 @@
 #![tactic(auto)]
 
 ghost use Rattle.std.specs.Prelude.{◌≡◌, length};
-ghost use Rattle.live.specs.Feeding.{started, refusal_of, refused_by, fed_of, lent_of, asked_of};
+ghost use Rattle.live.specs.Feeding.{started, refusal_of, taken_of, laid_of, fed_of, lent_of, asked_of};
 
 use frame::MOST_BYTES;
-use live_answer::{Fed, Heard, is_refusal};
+use live_answer::{Fed, HearRefusal};
 use live_held::{Inside, Live, NO_FRAME, Places, SOF_NEXT};
 use live_taken::{inside_frame, outside_frame};
 use units::{LongPlace, Micros};
@@ -32,7 +32,7 @@ pub fn start() -> Live
         inside: Inside {
             count: 0,
             began: 0,
-            kept: [0u8; MOST_BYTES],
+            kept: [0; MOST_BYTES],
             phase: NO_FRAME,
             partial: 0,
             register: 0,
@@ -40,45 +40,45 @@ pub fn start() -> Live
     }
 }
 
-// The refusal of an interval with so many bytes lent, 51 before 32. It is nothing where the interval is taken.
+// Why an interval with so many bytes lent is refused, 51 before 32, if it is.
 #[tactic(auto, unfolding(crate::specs::Feeding::refusal_of))]
-pub fn refusal(live: Live, lent: usize) -> Heard
+pub fn refusal(live: Live, lent: usize) -> Result<(), HearRefusal>
     ensures { result ≡ refusal_of live lent }
 {
-    let places = live.places;
-    let past = places.full != 0;
-    let few = lent < MOST_BYTES;
-    if past {
-        return Heard::PastPlaces;
+    if live.places.full != 0 {
+        return Err(HearRefusal::PastPlaces);
     }
-    if few {
-        return Heard::FewLentBytes;
+    if lent < MOST_BYTES {
+        return Err(HearRefusal::FewLentBytes);
     }
-    Heard::Nothing
+    Ok(())
 }
 
-// A refused interval: the reader is as it was.
-fn refused(live: Live, heard: Heard) -> Fed
-    ensures { result ≡ refused_by live heard }
+// An interval that is not refused: it stands before a frame or in one.
+#[tactic(auto, unfolding(crate::specs::Feeding::taken_of, crate::specs::Feeding::laid_of))]
+pub fn taken(live: Live, width: Micros, lent: &mut [u8]) -> Fed
+    ensures value { result ≡ taken_of live width.0 }
+    ensures lent_after { lent.new ≡ laid_of live width.0 lent.old }
 {
-    Fed { heard, live }
+    if live.inside.phase == NO_FRAME {
+        outside_frame(live, width)
+    } else {
+        inside_frame(live, width, lent)
+    }
 }
 
-// One interval more. Both refusals leave the reader and the lent bytes as they are; otherwise the interval stands before a
-// frame or in one.
+// One interval more. Both refusals leave the reader and the lent bytes as they are; otherwise the interval is taken.
 pub fn hear(live: Live, width: Micros, lent: &mut [u8]) -> Fed
     ensures value { result ≡ fed_of live width.0 (length lent.old) }
     ensures lent_after { lent.new ≡ lent_of live width.0 lent.old }
 {
-    let why = refusal(live, lent.len());
-    if is_refusal(why) {
-        return refused(live, why);
+    if let Err(why) = refusal(live, lent.len()) {
+        return Fed {
+            heard: Err(why),
+            live,
+        };
     }
-    let inside = live.inside;
-    if inside.phase == NO_FRAME {
-        return outside_frame(live, width);
-    }
-    inside_frame(live, width, lent)
+    taken(live, width, lent)
 }
 
 // What there is between two intervals. An opening that no interval follows yet is no unfinished frame.
@@ -86,14 +86,12 @@ pub fn hear(live: Live, width: Micros, lent: &mut [u8]) -> Fed
 pub fn ask(live: Live) -> Asked
     ensures { result ≡ asked_of live }
 {
-    let places = live.places;
-    let inside = live.inside;
-    if inside.phase <= SOF_NEXT {
+    if live.inside.phase <= SOF_NEXT {
         return Asked::Quiet {
-            next: LongPlace(places.from),
+            next: LongPlace(live.places.from),
         };
     }
     Asked::Unfinished {
-        opening: LongPlace(places.opening),
+        opening: LongPlace(live.places.opening),
     }
 }

@@ -3,15 +3,14 @@
 #![tactic(auto)]
 
 ghost use Rattle.std.specs.Prelude.{◌≡◌};
-ghost use Rattle.live_answer.specs.Answered.{still_open, closed_frame, fault_heard, is_refusal};
+ghost use Rattle.live_answer.specs.Answered.{still_open, closed_frame, fault_heard};
 
 use frame::{Fault, Lengths, MOST_BYTES, Response};
 use frame_machine::Machine;
 use live_held::{Live, begins_anew, goes_on};
 use units::LongPlace;
 
-// What an interval answers: nothing yet, the frame that it closes, the fault that it is at, or a refusal, which changes
-// nothing.
+// What an interval answers that is not refused: nothing yet, the frame that it closes, or the fault that it is at.
 #[derive(Clone, Copy)]
 pub enum Heard {
     Nothing,
@@ -25,14 +24,19 @@ pub enum Heard {
         fault: Fault,
         next: LongPlace,
     },
+}
+
+// Why an interval is refused: it stands past the last place, or too few bytes are lent for it.
+#[derive(Clone, Copy, Debug, PartialEq, Eq)]
+pub enum HearRefusal {
     PastPlaces,
     FewLentBytes,
 }
 
-// The reader after an interval, and what the interval answers.
+// The reader after an interval, and what the interval answers. A refusal leaves the reader as it was.
 #[derive(Clone, Copy)]
 pub struct Fed {
-    pub heard: Heard,
+    pub heard: Result<Heard, HearRefusal>,
     pub live: Live,
 }
 
@@ -41,7 +45,7 @@ pub fn going(live: Live, machine: Machine, kept: [u8; MOST_BYTES]) -> Fed
     ensures { result ≡ still_open live machine kept }
 {
     Fed {
-        heard: Heard::Nothing,
+        heard: Ok(Heard::Nothing),
         live: goes_on(live, machine, kept),
     }
 }
@@ -50,19 +54,15 @@ pub fn going(live: Live, machine: Machine, kept: [u8; MOST_BYTES]) -> Fed
 pub fn closed(live: Live, machine: Machine, end: bool) -> Fed
     ensures { result ≡ closed_frame live machine end }
 {
-    let places = live.places;
-    let closing = places.next;
-    let opening = places.opening;
+    let closing = live.places.next;
     let parts = frame_parts::parts_of(machine);
-    let lengths = parts.lengths;
-    let response = parts.response;
     Fed {
-        heard: Heard::Frame {
-            lengths,
-            response,
-            opening: LongPlace(opening),
+        heard: Ok(Heard::Frame {
+            lengths: parts.lengths,
+            response: parts.response,
+            opening: LongPlace(live.places.opening),
             next: LongPlace(closing),
-        },
+        }),
         live: begins_anew(live, closing, end),
     }
 }
@@ -71,31 +71,12 @@ pub fn closed(live: Live, machine: Machine, end: bool) -> Fed
 pub fn at_fault(live: Live, fault: Fault, end: bool) -> Fed
     ensures { result ≡ fault_heard live fault end }
 {
-    let places = live.places;
-    let here = places.next;
+    let here = live.places.next;
     Fed {
-        heard: Heard::Faulty {
+        heard: Ok(Heard::Faulty {
             fault,
             next: LongPlace(here),
-        },
+        }),
         live: begins_anew(live, here, end),
-    }
-}
-
-// Whether an answer is a refusal.
-pub fn is_refusal(heard: Heard) -> bool
-    ensures { result ≡ is_refusal heard }
-{
-    match heard {
-        Heard::Nothing => false,
-        Heard::Frame {
-            lengths: _,
-            response: _,
-            opening: _,
-            next: _,
-        } => false,
-        Heard::Faulty { fault: _, next: _ } => false,
-        Heard::PastPlaces => true,
-        Heard::FewLentBytes => true,
     }
 }

@@ -1,6 +1,6 @@
 -- Machinery.
 -- A live reader as the code holds it: the frame machine taken out of its numbers, and the reader after an interval.
-use Rattle.std.specs.Prelude.{ℕ, Bool, true, false, cond, List, eqb, leb}
+use Rattle.std.specs.Prelude.{ℕ, min, Bool, true, false, cond, List, eqb}
 use Rattle.frame.specs.Faults.{most_bytes}
 use Rattle.frame_machine.specs.declared.Phase.{Phase}
 use Rattle.frame_machine.specs.declared.Phase.TheVariants.{Sof, Main, Normalization, Plain, Checked}
@@ -16,10 +16,6 @@ use Rattle.live_held.specs.Held.{inside_of, outside, after}
 abbrev pub phase_by : ℕ → Phase
 phase_by n = cond (eqb n 1) Sof (cond (eqb n 2) Normalization (cond (eqb n 3) Main (cond (eqb n 4) Plain Checked)))
 
--- the lesser of two numbers
-abbrev pub least : ℕ → ℕ → ℕ
-least a b = cond (leb a b) a b
-
 -- What the frame machine holds in a reader. Whatever the reader's bytes are, it counts no more bytes than a frame has, and
 -- no part begins after them.
 unfoldable pub held_by : Inside → Machine
@@ -28,8 +24,8 @@ held_by i =
       phase = phase_by i.phase;
       partial = i.partial;
       register = i.register;
-      count = least i.count most_bytes;
-      began = least i.began (least i.count most_bytes);
+      count = min i.count most_bytes;
+      began = min i.began (min i.count most_bytes);
     }
 
 -- ## After an interval

@@ -2,7 +2,7 @@
 // after it. Whatever the numbers are, some machine is taken out, so that no caller has to vouch for a reader.
 ghost use Rattle.std.specs.Prelude.{◌≡◌};
 ghost use Rattle.live_held.specs.Held.{phase_number, inside_of, outside as outside_of};
-ghost use Rattle.live_held.specs.Reader.{phase_by, least as least_of, held_by};
+ghost use Rattle.live_held.specs.Reader.{phase_by, held_by};
 
 use crate::Inside;
 use frame::MOST_BYTES;
@@ -39,44 +39,26 @@ fn phase_number(phase: Phase) -> u16
 fn phase_by(number: u16) -> Phase
     ensures { result ≡ phase_by number }
 {
-    if number == SOF_NEXT {
-        return Phase::Sof;
+    match number {
+        SOF_NEXT => Phase::Sof,
+        NORMALIZATION_NEXT => Phase::Normalization,
+        IN_MAIN => Phase::Main,
+        IN_PLAIN => Phase::Plain,
+        _ => Phase::Checked,
     }
-    if number == NORMALIZATION_NEXT {
-        return Phase::Normalization;
-    }
-    if number == IN_MAIN {
-        return Phase::Main;
-    }
-    if number == IN_PLAIN {
-        return Phase::Plain;
-    }
-    Phase::Checked
-}
-
-// The lesser of two numbers.
-fn least(a: usize, b: usize) -> usize
-    ensures { result ≡ least_of a b }
-{
-    if a <= b {
-        return a;
-    }
-    b
 }
 
 // The machine that a reader holds. Its counts are bounded here, since they are places in the kept bytes.
 pub fn held_by(inside: Inside) -> Machine
     ensures { result ≡ held_by inside }
 {
-    let count = least(inside.count, MOST_BYTES);
-    let began = least(inside.began, count);
-    let phase = phase_by(inside.phase);
+    let count = inside.count.min(MOST_BYTES);
     Machine {
-        phase,
+        phase: phase_by(inside.phase),
         partial: inside.partial,
         register: inside.register,
         count,
-        began,
+        began: inside.began.min(count),
     }
 }
 
@@ -84,12 +66,11 @@ pub fn held_by(inside: Inside) -> Machine
 pub(crate) fn inside_of(machine: Machine, kept: [u8; MOST_BYTES]) -> Inside
     ensures { result ≡ inside_of machine kept }
 {
-    let phase = machine.phase;
     Inside {
         count: machine.count,
         began: machine.began,
         kept,
-        phase: phase_number(phase),
+        phase: phase_number(machine.phase),
         partial: machine.partial,
         register: machine.register,
     }

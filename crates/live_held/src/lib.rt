@@ -15,7 +15,7 @@ use held::{inside_of, outside};
 // The places of a live reader: the place of the next interval, the position from which reading goes on, and the opening of
 // the frame that is being heard. `full` is not 0 once the last place has been heard.
 #[repr(C)]
-#[derive(Clone, Copy)]
+#[derive(Clone, Copy, Debug, PartialEq, Eq)]
 pub struct Places {
     pub next: u64,
     pub from: u64,
@@ -26,7 +26,7 @@ pub struct Places {
 // The frame that is being heard: what the frame machine holds of it, and its bytes so far. Phase 0 is no frame: no end has
 // been heard since the position from which reading goes on.
 #[repr(C)]
-#[derive(Clone, Copy)]
+#[derive(Clone, Copy, Debug, PartialEq, Eq)]
 pub struct Inside {
     pub count: usize,
     pub began: usize,
@@ -39,32 +39,32 @@ pub struct Inside {
 // A live reader, which its owner lends to each call. All of it is plain numbers, laid out as C has it and without padding:
 // whatever bytes it holds it is a reader, and one of zeros has heard nothing.
 #[repr(C)]
-#[derive(Clone, Copy)]
+#[derive(Clone, Copy, Debug, PartialEq, Eq)]
 pub struct Live {
     pub places: Places,
     pub inside: Inside,
 }
 
 // The last place that 64 bits count, and what says that it has been heard.
-const LAST_PLACE: u64 = 18446744073709551615;
+const LAST_PLACE: u64 = u64::MAX;
 
 const FULL: u64 = 1;
 
 // The places after an interval. After the last place there is none to count on to.
+#[tactic(auto, unfolding(crate::specs::Held::after))]
 fn after(places: Places, from: u64, opening: u64) -> Places
     ensures { result ≡ after_of places from opening }
 {
-    let next = places.next;
-    if next == LAST_PLACE {
+    if places.next == LAST_PLACE {
         return Places {
-            next,
             from,
             opening,
             full: FULL,
+            ..places
         };
     }
     Places {
-        next: next + 1,
+        next: places.next + 1,
         from,
         opening,
         full: 0,
@@ -76,18 +76,15 @@ pub fn begins_anew(live: Live, from: u64, end: bool) -> Live
     ensures { result ≡ begins_anew live from end }
 {
     let places = live.places;
-    let inside = live.inside;
-    let kept = inside.kept;
-    let here = places.next;
-    let opening = places.opening;
+    let kept = live.inside.kept;
     if end {
         return Live {
-            places: after(places, from, here),
+            places: after(places, from, places.next),
             inside: inside_of(frame_machine::start(), kept),
         };
     }
     Live {
-        places: after(places, from, opening),
+        places: after(places, from, places.opening),
         inside: outside(kept),
     }
 }
@@ -97,10 +94,8 @@ pub fn goes_on(live: Live, machine: Machine, kept: [u8; MOST_BYTES]) -> Live
     ensures { result ≡ goes_on live machine kept }
 {
     let places = live.places;
-    let from = places.from;
-    let opening = places.opening;
     Live {
-        places: after(places, from, opening),
+        places: after(places, places.from, places.opening),
         inside: inside_of(machine, kept),
     }
 }

@@ -1,6 +1,6 @@
 -- Machinery.
 -- One interval that is not refused, as the code takes it.
-use Rattle.std.specs.Prelude.{ℕ, Bool, List, set}
+use Rattle.std.specs.Prelude.{ℕ, Bool, List, set, Ok}
 use Rattle.symbol.specs.Classes.{class_of, end_of}
 use Rattle.frame.specs.declared.Sign.{Sign}
 use Rattle.frame.specs.Line.{active_at}
@@ -40,7 +40,7 @@ ends_at v w = end_of (active_at v.places.next) w
 
 -- an interval that stands in no frame
 abbrev pub waiting : Live → ℕ → Fed
-waiting v w = record { heard = Nothing; live = begins_anew v v.places.from (ends_at v w) }
+waiting v w = record { heard = Ok Nothing; live = begins_anew v v.places.from (ends_at v w) }
 
 -- what an event does to the lent bytes: until the frame is closed its "bytes stay inside", and then they are laid where enough
 -- is lent for them

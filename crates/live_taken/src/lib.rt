@@ -23,11 +23,10 @@ pub fn outside_frame(live: Live, width: Micros) -> Fed
     ensures { result ≡ waiting live width.0 }
 {
     let places = live.places;
-    let from = places.from;
     let end = symbol::is_end(active_at(places.next), width);
     Fed {
-        heard: Heard::Nothing,
-        live: begins_anew(live, from, end),
+        heard: Ok(Heard::Nothing),
+        live: begins_anew(live, places.from, end),
     }
 }
 
@@ -37,29 +36,20 @@ pub fn inside_frame(live: Live, width: Micros, lent: &mut [u8]) -> Fed
     ensures value { result ≡ fed_by (step_at live width.0).event live (step_at live width.0).machine (ends_at live width.0) }
     ensures lent_after { lent.new ≡ laid_by (step_at live width.0).event live.inside lent.old }
 {
-    let places = live.places;
-    let inside = live.inside;
-    let active = active_at(places.next);
+    let active = active_at(live.places.next);
     let end = symbol::is_end(active, width);
-    let held = held_by(inside);
-    let count = held.count;
+    let held = held_by(live.inside);
     let sign = frame_tests::sign_of(symbol::class(active, width));
     let stepped = frame_machine::step(MOST_BYTES, held, sign);
-    let event = stepped.event;
-    let then = stepped.machine;
-    match event {
-        Event::Going => {
-            let kept = inside.kept;
-            going(live, then, kept)
-        }
+    let mut kept = live.inside.kept;
+    match stepped.event {
+        Event::Going => going(live, stepped.machine, kept),
         Event::Byte(byte) => {
-            let mut kept = inside.kept;
-            kept[count] = byte;
-            going(live, then, kept)
+            kept[held.count] = byte;
+            going(live, stepped.machine, kept)
         }
         Event::Closed => {
-            let kept = inside.kept;
-            frame_parts::lay(kept, count, lent);
+            frame_parts::lay(kept, held.count, lent);
             closed(live, held, end)
         }
         Event::Faulty(fault) => at_fault(live, fault, end),

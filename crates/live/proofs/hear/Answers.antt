@@ -1,22 +1,15 @@
 -- `live::hear` meets its contract: a refusal, or the interval that is taken.
 use mathlib.Core.Path.{sym, ◌∙◌}
-use Rattle.live.proofs.Refusing.{refused_so, taken_outside, taken_inside}
+use Rattle.std.proofs.lemmas.Result.{MatchResult-at_ok, MatchResult-at_err}
+use Rattle.live.proofs.Refusing.{hear_by}
 use Rattle.live.proofs.hear.Goals as goal
 
-pub returns-then-is_refusal : goal.returns-then-is_refusal
-returns-then-is_refusal c =
-    let a = c.args in
-    let so = refused_so a.live a.width.0 a.lent.now _ c.refusal-why.ensures _ c.is_refusal.ensures c.if-is_refusal.true in
-    record { value = c.refused.ensures ∙ sym so.0; lent_after = sym so.1 }
-
-pub returns-then-inside-eq-NO_FRAME : goal.returns-then-inside-eq-NO_FRAME
-returns-then-inside-eq-NO_FRAME c =
-    let a = c.args in
-    let so = taken_outside a.live a.width.0 a.lent.now _ c.refusal-why.ensures _ c.is_refusal.ensures c.if-is_refusal.false c.if-inside-eq-NO_FRAME.true in
-    record { value = c.outside_frame.ensures ∙ sym so.0; lent_after = sym so.1 }
+pub returns-in-Err : goal.returns-in-Err
+returns-in-Err c =
+    let so = MatchResult-at_err _ _ c.in-Err.why (sym c.in-Err.ensures) (hear_by c.args.live c.args.width.0 c.args.lent.now) in
+    record { value = sym so.0; lent_after = sym so.1 }
 
 pub returns : goal.returns
 returns c =
-    let a = c.args in
-    let so = taken_inside a.live a.width.0 a.lent.now _ c.refusal-why.ensures _ c.is_refusal.ensures c.if-is_refusal.false c.if-inside-eq-NO_FRAME.false in
-    record { value = c.inside_frame.ensures.value ∙ sym so.0; lent_after = c.inside_frame.ensures.lent_after ∙ sym so.1 }
+    let so = MatchResult-at_ok _ _ c.in_default.field-0 (sym c.in_default.ensures) (hear_by c.args.live c.args.width.0 c.args.lent.now) in
+    record { value = c.taken.ensures.value ∙ sym so.0; lent_after = c.taken.ensures.lent_after ∙ sym so.1 }

@@ -4,8 +4,8 @@ use Rattle.live_taken.proofs.Events.{steps_by, fed_by_law, laid_by_law}
 use Rattle.frame_machine.proofs.Space.{has_space}
 use Rattle.live_taken.proofs.inside_frame.Goals as goal
 
-pub bounds-kept-count : goal.bounds-kept-count
-bounds-kept-count c = let stepped = c in has_space _ stepped.held_by-held.result stepped.sign_of-sign.result _ _ stepped.step-stepped.ensures c.in-Byte.is
+pub bounds-kept-held : goal.bounds-kept-held
+bounds-kept-held c = let stepped = c in has_space _ stepped.held_by-held.result stepped.sign_of-sign.result _ _ stepped.step-stepped.ensures c.in-Byte.is
 
 pub returns-in-Going : goal.returns-in-Going
 returns-in-Going c =

@@ -4,4 +4,4 @@ use Rattle.live_held.proofs.held.held_by.Goals as goal
 
 pub returns : goal.returns
 unfolding held_by
-returns c = rw (c.phase_by-phase.ensures, c.least-began.ensures, c.least-count.ensures)
+returns c = rw (c.phase_by.ensures, c.min.ensures, c.min-count.ensures)
