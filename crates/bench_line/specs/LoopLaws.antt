@@ -1,6 +1,6 @@
 -- Laws.
 -- The loops over the lanes: what they have come to, and one place more.
-use Rattle.std.specs.Prelude.{ℕ, suc, ◌+◌, ◌-◌, ◌*◌, ◌≤◌, ◌<◌, min, max, ◌≡◌, refl, Bool, true, false, not, List, [], ◌∷◌, ◌++◌, map, length, take, drop, get_or, set, replicate, Option, None, Some}
+use Rattle.std.specs.Prelude.{ℕ, suc, ◌+◌, ◌-◌, ◌≤◌, ◌<◌, min, max, ◌≡◌, refl, Bool, true, false, not, List, [], ◌∷◌, ◌++◌, map, length, take, drop, get_or, set, replicate, Option, None, Some}
 use Rattle.std.proofs.Common.{sym, ap, ap₂, ◌∙◌, subst, arith, append_assoc, append-nil, add-one, take_all}
 use Rattle.std.proofs.lemmas.List.{map-append, length-set, map_more, take_more_set, drop-set-lt, drop_more, drop-replicate, length-map, length-take-le}
 use Rattle.std.proofs.Math.Seq.{set-append_seam}
@@ -76,10 +76,10 @@ module _ {active : Bool} {j : ℕ} {one : Bool} {first now : List Lane} {i : ℕ
       let seats : seats_at (not active) (j + 1) (take (i + 1) (set now i y)) ≡ seats_at (not active) (j + 1) (take i now) ++ (seat_at (not active) (j + 1) y ∷ []) =
       ap (seats_at (not active) (j + 1)) (take_more_set now i y h) ∙ map-append (seat_at (not active) (j + 1)) (take i now) (y ∷ []) in
       let heard_now : seat_at (not active) (j + 1) y ≡ heard (j + 1) one (seat_at active j l) =
-          let z : j + 1 ≡ suc j = add-one j in
-          subst (λ (k : ℕ). y ≡ record l { lost = lost_by k one (ask_of l active j) l.lost } → seat_at (not active) k y ≡ heard k one (seat_at active j l)) (sym z)
-          (λ x. ap (seat_at (not active) (suc j)) x ∙ heard_is l active j one)
-          (e ∙ ap (λ (x : Ask). record l { lost = lost_by (j + 1) one x l.lost }) a) in
+      let z : j + 1 ≡ suc j = add-one j in
+      subst (λ (k : ℕ). y ≡ record l { lost = lost_by k one (ask_of l active j) l.lost } → seat_at (not active) k y ≡ heard k one (seat_at active j l)) (sym z)
+      (λ x. ap (seat_at (not active) (suc j)) x ∙ heard_is l active j one)
+      (e ∙ ap (λ (x : Ask). record l { lost = lost_by (j + 1) one x l.lost }) a) in
       record {
         heard_so =
             seats

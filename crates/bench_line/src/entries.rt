@@ -12,13 +12,9 @@ use bench_lane::{BITS_OF_BYTE, Lane};
 pub(crate) fn places(row: &[Station; MOST_STATIONS]) -> usize
     ensures { Holders row.now result }
 {
-    let mut places = 0;
-    for (i, station) in row.iter().enumerate() {
-        if 0 < station.len {
-            places = i + 1;
-        }
-    }
-    places
+    row.iter()
+        .rposition(|station| 0 < station.len)
+        .map_or(0, |last| last + 1)
 }
 
 // The bytes that a message sends, its check byte after them, filled up with zeros.
