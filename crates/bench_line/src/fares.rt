@@ -12,10 +12,10 @@ use bench_lane::Lane;
 fn verdict(lane: &Lane) -> Verdict
     ensures { result ≡ verdict_at lane.now }
 {
-    let fared = match lane.lost {
-        _ if lane.count == 0 => Fared::Idle,
-        Some(k) => Fared::Lost(k),
-        None => Fared::Through,
+    let fared = if lane.count == 0 {
+        Fared::Idle
+    } else {
+        lane.lost.map_or(Fared::Through, Fared::Lost)
     };
     Verdict { fared }
 }
