@@ -29,6 +29,7 @@ fn frame_of(message: &[u8]) -> [u8; MOST_SENT]
 }
 
 // The lane of a station as a round begins.
+#[tactic(auto, using(crate::specs::EntryLaws::lane_empty, crate::specs::EntryLaws::lane_holder))]
 fn lane_of(station: &Station) -> Lane
     ensures { seat_at false 0 result ≡ place_of station.now }
 {
@@ -47,6 +48,7 @@ fn lane_of(station: &Station) -> Lane
 }
 
 // The lanes of the stations of a row. The lanes past its end have nothing to send.
+#[tactic(auto, using(crate::specs::LoopLaws::map_one))]
 pub(crate) fn lanes(row: &[Station]) -> [Lane; MOST_STATIONS]
     requires { length row.now ≤ most_stations }
     ensures { seats_at false 0 (take (length row.now) result) ≡ map place_of row.now }

@@ -21,6 +21,7 @@ fn verdict(lane: &Lane) -> Verdict
 }
 
 // The verdicts of a round that is over. The places past the lanes are idle.
+#[tactic(auto, using(crate::specs::LoopLaws::fill_one, crate::specs::LoopLaws::fill_all))]
 pub(crate) fn verdicts(lanes: &[Lane]) -> [Verdict; MOST_STATIONS]
     requires { length lanes.now ≤ most_stations }
     ensures { result ≡ map verdict_at lanes.now ++ replicate (most_stations - length lanes.now) (verdict_of Idle) }
