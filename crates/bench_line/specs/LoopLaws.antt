@@ -1,7 +1,7 @@
 -- Laws.
 -- The loops over the lanes: what they have come to, and one place more.
-use Rattle.std.specs.Prelude.{ℕ, suc, ◌+◌, ◌-◌, ◌*◌, ◌≤◌, ◌<◌, min, max, ◌≡◌, refl, Bool, true, false, not, List, [], ◌∷◌, ◌++◌, map, length, take, drop, get_or, set, replicate, Option, None, Some}
-use Rattle.std.proofs.Common.{sym, ap, ap₂, ◌∙◌, subst, arith, append_assoc, append-nil, add-one, take_all}
+use Rattle.std.specs.Prelude.{ℕ, ◌+◌, ◌-◌, ◌≤◌, ◌<◌, min, max, ◌≡◌, refl, Bool, true, false, not, List, [], ◌∷◌, ◌++◌, map, length, take, drop, get_or, set, replicate, Option, None, Some}
+use Rattle.std.proofs.Common.{sym, ap, ap₂, ◌∙◌, arith, append_assoc, append-nil, take_all}
 use Rattle.std.proofs.lemmas.List.{map-append, length-set, map_more, take_more_set, drop-set-lt, drop_more, drop-replicate, length-map, length-take-le}
 use Rattle.std.proofs.Math.Seq.{set-append_seam}
 use Rattle.bench.specs.Course.{Pulse, Seat, out, on, asks, asked, widths_of, shortest, longest, heard}
@@ -73,17 +73,11 @@ module _ {active : Bool} {j : ℕ} {one : Bool} {first now : List Lane} {i : ℕ
       let c : get_or now i l ∷ drop (i + 1) now ≡ get_or first i l ∷ drop (i + 1) first = sym (drop_more now i l h) ∙ s.ahead ∙ drop_more first i l k in
       let same : l ≡ get_or first i l = cc in
       let rest : drop (i + 1) now ≡ drop (i + 1) first = cc in
-      let seats : seats_at (not active) (j + 1) (take (i + 1) (set now i y)) ≡ seats_at (not active) (j + 1) (take i now) ++ (seat_at (not active) (j + 1) y ∷ []) =
-      ap (seats_at (not active) (j + 1)) (take_more_set now i y h) ∙ map-append (seat_at (not active) (j + 1)) (take i now) (y ∷ []) in
-      let heard_now : seat_at (not active) (j + 1) y ≡ heard (j + 1) one (seat_at active j l) =
-          let z : j + 1 ≡ suc j = add-one j in
-          subst (λ (k : ℕ). y ≡ record l { lost = lost_by k one (ask_of l active j) l.lost } → seat_at (not active) k y ≡ heard k one (seat_at active j l)) (sym z)
-          (λ x. ap (seat_at (not active) (suc j)) x ∙ heard_is l active j one)
-          (e ∙ ap (λ (x : Ask). record l { lost = lost_by (j + 1) one x l.lost }) a) in
       record {
         heard_so =
-            seats
-            ∙ ap₂ (λ (xs : List Seat) (x : Seat). xs ++ (x ∷ [])) s.heard_so (heard_now ∙ ap (λ (x : Lane). heard (j + 1) one (seat_at active j x)) same)
+            seats h y
+            ∙ ap₂ (λ (xs : List Seat) (x : Seat). xs ++ (x ∷ [])) s.heard_so
+            (heard_is l active j one y (e ∙ ap (λ (x : Ask). record l { lost = lost_by (j + 1) one x l.lost }) a) ∙ ap (λ (x : Lane). heard (j + 1) one (seat_at active j x)) same)
             ∙ sym (map-append (heard (j + 1) one) (seats_at active j (take i first)) (seat_at active j (get_or first i l) ∷ []))
             ∙ ap (map (heard (j + 1) one)) (sym (map_more (seat_at active j) first i l k));
         ahead = drop-set-lt (i + 1) now i y (omega arith) ∙ rest;
@@ -91,8 +85,11 @@ module _ {active : Bool} {j : ℕ} {one : Bool} {first now : List Lane} {i : ℕ
         asks_so =
             g ∙ ap₂ (taken_in (not active)) s.asks_so (f ∙ ask_is y (not active) (j + 1))
             ∙ one_more (not active) (seats_at (not active) (j + 1) (take i now)) (seat_at (not active) (j + 1) y)
-            ∙ ap (λ (xs : List Seat). asked_by (not active) (asked xs)) (sym seats);
+            ∙ ap (λ (xs : List Seat). asked_by (not active) (asked xs)) (sym (seats h y));
       }
+    where
+      seats : i < length now → (y : Lane) → seats_at (not active) (j + 1) (take (i + 1) (set now i y)) ≡ seats_at (not active) (j + 1) (take i now) ++ (seat_at (not active) (j + 1) y ∷ [])
+      seats h y = ap (seats_at (not active) (j + 1)) (take_more_set now i y h) ∙ map-append (seat_at (not active) (j + 1)) (take i now) (y ∷ [])
 
   -- After the last place all have.
   pub hear_all : length first ≤ i → seats_at (not active) (j + 1) now ≡ map (heard (j + 1) one) (seats_at active j first)

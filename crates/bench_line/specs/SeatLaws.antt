@@ -1,7 +1,7 @@
 -- Laws.
 -- Lanes and places agree, bit by bit: what a lane asks and what becomes of it is what the definition says of its place.
 use Rattle.std.specs.Prelude.{ℕ, suc, ◌+◌, ◌*◌, ◌/◌, ◌%◌, ◌≤◌, ◌<◌, ◌≡◌, refl, Bool, true, false, cond, not, ◌||◌, List, [], ◌∷◌, eqb, leb, length, take, get_or, Option, None, Some, is_some}
-use Rattle.std.proofs.Common.{ap, ◌∙◌, arith, length-take, drop_of_length-le, drop-cons, leb-true, leb-false}
+use Rattle.std.proofs.Common.{add-one, ap, ◌∙◌, arith, length-take, drop_of_length-le, drop-cons, leb-true, leb-false}
 use Rattle.std.proofs.Math.Seq.{get_or-take}
 use Rattle.std.specs.Bool.{beq}
 use Rattle.symbol.specs.Sending.{bit_width}
@@ -65,9 +65,9 @@ module _ (l : Lane) (active : Bool) (j : ℕ) where
       go None false false e = rw (rest_more (leb-false l.count j e))
 
   -- What becomes of it.
-  pub heard_is : (one : Bool) → seat_at (not active) (suc j) (record l { lost = lost_by (suc j) one (ask_of l active j) l.lost }) ≡ heard (suc j) one (seat_at active j l)
+  pub heard_is : (one : Bool) (y : Lane) → y ≡ record l { lost = lost_by (j + 1) one (ask_of l active j) l.lost } → seat_at (not active) (j + 1) y ≡ heard (j + 1) one (seat_at active j l)
   unfolding seat_at rest_at
-  heard_is one = rw ask_is (go l.lost (eqb l.count 0) (leb l.count j) refl)
+  heard_is one y e = rw (e, add-one j, ask_is) (go l.lost (eqb l.count 0) (leb l.count j) refl)
     where
       rest : List Pulse
       rest = rest_at (not active) (suc j) l

@@ -1,7 +1,8 @@
 -- Laws.
 -- The loop over the bits of a round: what is written and what is still to come make up the whole.
 use Rattle.std.specs.Prelude.{ℕ, zero, suc, ◌+◌, ◌-◌, ◌≤◌, ◌<◌, ◌≡◌, refl, Bool, true, false, not, List, [], ◌∷◌, ◌++◌, map, length, take, drop, set, None, Some}
-use Rattle.std.proofs.Common.{sym, ap, ap₂, ◌∙◌, subst, arith, add-one, take_all, length-set}
+use Rattle.std.proofs.Common.{get_or, sym, ap, ap₂, ◌∙◌, subst, arith, add-one, take_all, length-set, length-drop}
+use Rattle.std.proofs.lemmas.List.{take_more, drop_more}
 use Rattle.std.proofs.lemmas.List.Edits.{sets}
 use Rattle.std.proofs.lemmas.Option.{none-some, same_Some}
 use Rattle.std.proofs.Math.Seq.{length-take-le}
@@ -56,15 +57,14 @@ play_more n active k seats w e q = rw (e, ← q)
 
 -- a list that is empty past place j, or has one element there
 drop_none : (l : List ℕ) (j : ℕ) → drop j l ≡ [] → length l ≤ j
-drop_none [] j e = omega arith
-drop_none (x ∷ l) zero e = let z : ◌≡◌ {A = ℕ} 0 1 = cc in absurd (omega arith)
-drop_none (x ∷ l) (suc j) e = omega (arith, drop_none l j e)
+drop_none l j e = omega (arith, ap length e, length-drop j l)
 
-drop_one : (l : List ℕ) (j w : ℕ) (r : List ℕ) → drop j l ≡ w ∷ r → (take (suc j) l ≡ take j l ++ (w ∷ [])) × (drop (suc j) l ≡ r) × (j < length l)
-drop_one [] zero w r e = let z : ◌≡◌ {A = ℕ} 0 1 = cc in absurd (omega arith)
-drop_one [] (suc j) w r e = let z : ◌≡◌ {A = ℕ} 0 1 = cc in absurd (omega arith)
-drop_one (x ∷ l) zero w r e = (cc, cc, omega arith)
-drop_one (x ∷ l) (suc j) w r e = let d = drop_one l j w r e in (ap (λ (q : List ℕ). x ∷ q) d.0, d.1, omega (arith, d.2))
+drop_one : (l : List ℕ) (j w : ℕ) (r : List ℕ) → drop j l ≡ w ∷ r → (take (j + 1) l ≡ take j l ++ (w ∷ [])) × (drop (j + 1) l ≡ r) × (j < length l)
+drop_one l j w r e =
+    let h : j < length l = omega (arith, ap length e, length-drop j l) in
+    let c : get_or l j w ∷ drop (j + 1) l ≡ w ∷ r = sym (drop_more l j w h) ∙ e in
+    let x : get_or l j w ≡ w = cc in
+    (take_more l j w h ∙ ap (λ (v : ℕ). take j l ++ (v ∷ [])) x, cc, h)
 
 -- where nobody asks, and where somebody does
 none_asks : (active : Bool) (ps : List Pulse) → None ≡ asked_by active ps → nobody_asks ps ≡ true
@@ -138,8 +138,7 @@ module _ {first : List Lane} {old : List ℕ} {ls : List Lane} {active : Bool} {
               ap (λ (r : List ℕ). set r (2 + j) w) s.written
               ∙ ap (λ (x : ℕ). set (sets old 2 (take j all)) x w) k
               ∙ sets_then old 2 (take j all) (w ∷ [])
-              ∙ ap (sets old 2) (sym d.0 ∙ ap (λ (x : ℕ). take x all) (sym (add-one j)));
+              ∙ ap (sets old 2) (sym d.0);
           to_come =
-              ap₂ (λ (ws : List ℕ) (x : List Seat). record { widths = ws; seats = x }) (sym d.1 ∙ ap (λ (x : ℕ). drop x all) (sym (add-one j)))
-              (ap (λ (x : Course). x.seats) c);
+              ap₂ (λ (ws : List ℕ) (x : List Seat). record { widths = ws; seats = x }) (sym d.1) (ap (λ (x : Course). x.seats) c);
         }

@@ -12,13 +12,9 @@ use bench_lane::{BITS_OF_BYTE, Lane};
 pub(crate) fn places(row: &[Station; MOST_STATIONS]) -> usize
     ensures { Holders row.now result }
 {
-    let mut places = 0;
-    for (i, station) in row.iter().enumerate() {
-        if 0 < station.len {
-            places = i + 1;
-        }
-    }
-    places
+    row.iter()
+        .rposition(|station| 0 < station.len)
+        .map_or(0, |last| last + 1)
 }
 
 // The bytes that a message sends, its check byte after them, filled up with zeros.
@@ -33,6 +29,7 @@ fn frame_of(message: &[u8]) -> [u8; MOST_SENT]
 }
 
 // The lane of a station as a round begins.
+#[tactic(auto, using(crate::specs::EntryLaws::lane_empty, crate::specs::EntryLaws::lane_holder))]
 fn lane_of(station: &Station) -> Lane
     ensures { seat_at false 0 result ≡ place_of station.now }
 {
@@ -51,6 +48,7 @@ fn lane_of(station: &Station) -> Lane
 }
 
 // The lanes of the stations of a row. The lanes past its end have nothing to send.
+#[tactic(auto, using(crate::specs::LoopLaws::map_one))]
 pub(crate) fn lanes(row: &[Station]) -> [Lane; MOST_STATIONS]
     requires { length row.now ≤ most_stations }
     ensures { seats_at false 0 (take (length row.now) result) ≡ map place_of row.now }

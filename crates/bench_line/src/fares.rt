@@ -12,15 +12,16 @@ use bench_lane::Lane;
 fn verdict(lane: &Lane) -> Verdict
     ensures { result ≡ verdict_at lane.now }
 {
-    let fared = match lane.lost {
-        _ if lane.count == 0 => Fared::Idle,
-        Some(k) => Fared::Lost(k),
-        None => Fared::Through,
+    let fared = if lane.count == 0 {
+        Fared::Idle
+    } else {
+        lane.lost.map_or(Fared::Through, Fared::Lost)
     };
     Verdict { fared }
 }
 
 // The verdicts of a round that is over. The places past the lanes are idle.
+#[tactic(auto, using(crate::specs::LoopLaws::fill_one, crate::specs::LoopLaws::fill_all))]
 pub(crate) fn verdicts(lanes: &[Lane]) -> [Verdict; MOST_STATIONS]
     requires { length lanes.now ≤ most_stations }
     ensures { result ≡ map verdict_at lanes.now ++ replicate (most_stations - length lanes.now) (verdict_of Idle) }

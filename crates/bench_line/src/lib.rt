@@ -40,9 +40,10 @@ pub fn contend(at: [Station; MOST_STATIONS], words: &mut [u32]) -> Contended
 fn nobody() -> Contended
     ensures { result ≡ nobody_sent }
 {
-    let idle = Verdict { fared: Fared::Idle };
-    let verdicts: [Verdict; MOST_STATIONS] = [idle; MOST_STATIONS];
-    Contended { bits: 0, verdicts }
+    Contended {
+        bits: 0,
+        verdicts: [Verdict { fared: Fared::Idle }; MOST_STATIONS],
+    }
 }
 
 // The stations contend over words enough.
