@@ -97,7 +97,7 @@ pub extern "C" fn j1850_read(intervals: &[u32], from: usize, bytes: &mut [u8]) -
     ensures value { result ≡ read_as (tells (reading intervals.now from (length bytes.old))) }
     ensures bytes_after { bytes.new ≡ lent_after (reading intervals.now from (length bytes.old)) bytes.old }
 {
-    c_frame_answers::read_as(frame_read::read(intervals, Place(from), bytes))
+    Read::from(frame_read::read(intervals, Place(from), bytes))
 }
 
 // The desk's whole text for an input, into lent bytes; the input's widths go into lent words.

@@ -10,7 +10,7 @@ ghost use Rattle.desk_text.specs.Promise.{answered_told};
 ghost use Rattle.c_frame_answers.specs.Answers.{traced_as, no_such_kind, counted_as, read_as, desk_as};
 
 use desk_text::Answered;
-use frame::{Reading, Writing};
+use frame::{ReadRefusal, Reading, Writing};
 use frame_numbers::{
     BAD_CLOCK, BAD_MESSAGE, DONE, FEW_LENT, PAST_RECORDING, QUIET, UNFINISHED, WITHOUT,
 };
@@ -152,28 +152,36 @@ pub fn written(answer: Writing) -> Counted
 }
 
 // What reading answers.
-pub fn read_as(answer: Reading) -> Read
-    ensures { result ≡ read_as (told answer) }
-{
-    match answer {
-        Reading::Frame {
-            lengths,
-            response,
-            opening,
-            next,
-        } => Read {
-            number: DONE,
-            kind: frame_numbers::kind_number(response),
-            next: next.0,
-            opening: opening.0,
-            main: lengths.main,
-            response: lengths.response,
-        },
-        Reading::Quiet { next } => bare(QUIET, next.0, 0),
-        Reading::Unfinished { opening } => bare(UNFINISHED, opening.0, opening.0),
-        Reading::Faulty { fault, next } => bare(frame_numbers::fault_number(fault), next.0, 0),
-        Reading::PastRecording => bare(PAST_RECORDING, 0, 0),
-        Reading::FewLentBytes => bare(FEW_LENT, 0, 0),
+impl From<Result<Reading, ReadRefusal>> for Read {
+    ghost from_gives = { λ answer read. read ≡ read_as (told answer) };
+
+    fn from(answer: Result<Reading, ReadRefusal>) -> Self {
+        match answer {
+            Ok(
+                Reading::Frame {
+                    lengths,
+                    response,
+                    opening,
+                    next,
+                },
+            ) => Read {
+                number: DONE,
+                kind: frame_numbers::kind_number(response),
+                next: next.0,
+                opening: opening.0,
+                main: lengths.main,
+                response: lengths.response,
+            },
+            Ok(Reading::Quiet { next }) => bare(QUIET, next.0, 0),
+            Ok(Reading::Unfinished { opening }) => bare(UNFINISHED, opening.0, opening.0),
+            Ok(Reading::Faulty { fault, next }) => bare(
+                frame_numbers::fault_number(fault),
+                next.0,
+                0,
+            ),
+            Err(ReadRefusal::PastRecording) => bare(PAST_RECORDING, 0, 0),
+            Err(ReadRefusal::FewLentBytes) => bare(FEW_LENT, 0, 0),
+        }
     }
 }
 

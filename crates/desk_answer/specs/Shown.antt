@@ -1,23 +1,21 @@
 -- Definitions.
 -- What the lines of the text take from an answer, told by the definitions of the rooms below.
-use Rattle.std.specs.Prelude.{ℕ, Bool, true, false, List, [], ◌∷◌, ◌++◌}
+use Rattle.std.specs.Prelude.{ℕ, Bool, true, false, List, [], ◌∷◌, ◌++◌, Option, Some, None, Result, Ok, Err}
 use Rattle.frame.specs.declared.Response.{Response}
 use Rattle.frame.specs.declared.Response.TheVariants.{Without, Plain, Checked}
 use Rattle.frame.specs.declared.Reading.{Reading}
-use Rattle.frame.specs.declared.Reading.TheVariants.{Frame, Quiet, Unfinished, Faulty, PastRecording, FewLentBytes}
+use Rattle.frame.specs.declared.Reading.TheVariants.{Frame, Quiet, Unfinished, Faulty}
+use Rattle.frame.specs.declared.ReadRefusal.{ReadRefusal}
 use Rattle.desk_text.specs.Grammar.{newline}
 use Rattle.desk_text.specs.Report.{w_none, w_plain, w_checked}
-use Rattle.desk_answer.specs.declared.Next.{Next}
-use Rattle.desk_answer.specs.declared.Next.TheVariants.{At, Nowhere}
 
 -- where reading goes on after an answer
-abbrev pub after_of : Reading → Next
-after_of (Frame lengths response opening next) = At next.0
-after_of (Quiet next) = Nowhere
-after_of (Unfinished opening) = Nowhere
-after_of (Faulty fault next) = At next.0
-after_of PastRecording = Nowhere
-after_of FewLentBytes = Nowhere
+abbrev pub after_of : Result Reading ReadRefusal → Option ℕ
+after_of (Ok (Frame lengths response opening next)) = Some next.0
+after_of (Ok (Quiet next)) = None
+after_of (Ok (Unfinished opening)) = None
+after_of (Ok (Faulty fault next)) = Some next.0
+after_of (Err refusal) = None
 
 -- a frame without a response
 abbrev pub is_without : Response → Bool

@@ -8,31 +8,15 @@ ghost use Rattle.desk_text.specs.Numerals.{hex_digit};
 ghost use Rattle.desk_answer.specs.Shown.{after_of, is_without, mark_of};
 
 use desk_text::{MOST_TEXT, MOST_WIDTHS};
-use frame::{Reading, Response};
+use frame::{ReadRefusal, Reading, Response};
 
-// Where reading goes on after an answer, or that it does not.
-#[derive(Clone, Copy)]
-pub enum Next {
-    At(usize),
-    Nowhere,
-}
-
-// Where reading goes on: after a frame and after a fault.
-pub fn after(reading: Reading) -> Next
-    ensures { result ≡ after_of reading }
+// Where reading goes on after an answer: after a frame and after a fault, and nowhere after any other.
+pub fn after(answer: Result<Reading, ReadRefusal>) -> Option<usize>
+    ensures { result ≡ after_of answer }
 {
-    match reading {
-        Reading::Frame {
-            lengths: _,
-            response: _,
-            opening: _,
-            next,
-        } => Next::At(next.0),
-        Reading::Quiet { next: _ } => Next::Nowhere,
-        Reading::Unfinished { opening: _ } => Next::Nowhere,
-        Reading::Faulty { fault: _, next } => Next::At(next.0),
-        Reading::PastRecording => Next::Nowhere,
-        Reading::FewLentBytes => Next::Nowhere,
+    match answer {
+        Ok(Reading::Frame { next, .. } | Reading::Faulty { next, .. }) => Some(next.0),
+        Ok(Reading::Quiet { .. } | Reading::Unfinished { .. }) | Err(_) => None,
     }
 }
 

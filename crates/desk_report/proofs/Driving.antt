@@ -14,7 +14,7 @@ use Rattle.frame.specs.ReadStated.{goes_on}
 use Rattle.frame.specs.ReadingOn.{next_of, last, more, reads_once}
 use Rattle.frame.proofs.RecordingOn.{progress, ReadsOn, answers_in, reads_on}
 use Rattle.desk_text.specs.Report.{answer_text, answers_text}
-use Rattle.desk_answer.specs.declared.Next.TheVariants.{At, Nowhere}
+use Rattle.std.specs.Prelude.{Some, None}
 use Rattle.desk_report.specs.declared.lines.Step.{Step}
 use Rattle.desk_report.specs.Laying.{Laid, Space}
 use Rattle.desk_report.specs.Reporting.{answer_at, onwards, text_from, Stepped}
@@ -22,14 +22,14 @@ use Rattle.desk_report.proofs.Laying.{laid_long}
 
 -- ## One answer and the rest
 
-goes : (x : Outcome) (q : ℕ) → onwards x ≡ At q → (goes_on x ≡ true) × (next_of x ≡ q)
+goes : (x : Outcome) (q : ℕ) → onwards x ≡ Some q → (goes_on x ≡ true) × (next_of x ≡ q)
 goes (good f) q e = (refl, cc)
 goes (quiet next) q e = let z : ◌≡◌ {A = ℕ} 0 1 = cc in absurd (omega arith)
 goes (unfinished opening) q e = let z : ◌≡◌ {A = ℕ} 0 1 = cc in absurd (omega arith)
 goes (faulty number next) q e = (refl, cc)
 goes (refused number) q e = let z : ◌≡◌ {A = ℕ} 0 1 = cc in absurd (omega arith)
 
-ends : (x : Outcome) → onwards x ≡ Nowhere → goes_on x ≡ false
+ends : (x : Outcome) → onwards x ≡ None → goes_on x ≡ false
 ends (good f) e = let z : ◌≡◌ {A = ℕ} 0 1 = cc in absurd (omega arith)
 ends (quiet next) e = refl
 ends (unfinished opening) e = refl
@@ -75,7 +75,7 @@ module _ (customer vehicle ws : List ℕ) where
         go false e = omega (arith, left.count, left.fits, ap length (text_last p left.inside e))
 
     module _ {exit : List ℕ} {step : Step} (s : Stepped customer vehicle ws p k lent exit step) where
-      pub left_end : step.next ≡ Nowhere → Laid at (text_from customer vehicle ws 0) entry exit step.end
+      pub left_end : step.next ≡ None → Laid at (text_from customer vehicle ws 0) entry exit step.end
       left_end e =
           let r = text_last p left.inside (ends (answer_at ws p) (sym s.follows ∙ e)) in
           record {
@@ -83,7 +83,7 @@ module _ (customer vehicle ws : List ℕ) where
             lays = s.line.lays ∙ ap (sets lent k) (sym r) ∙ left.laid;
           }
 
-      pub left_next : (q : ℕ) → step.next ≡ At q → Left entry at exit step.end q
+      pub left_next : (q : ℕ) → step.next ≡ Some q → Left entry at exit step.end q
       left_next q e =
           let g = goes (answer_at ws p) q (sym s.follows ∙ e) in
           let o = progress most_bytes (single ws) p most_bytes g.0 in
@@ -103,7 +103,7 @@ module _ (customer vehicle ws : List ℕ) where
           }
 
       -- reading goes on further on
-      pub left_less : (q : ℕ) → step.next ≡ At q → length ws - q < length ws - p
+      pub left_less : (q : ℕ) → step.next ≡ Some q → length ws - q < length ws - p
       left_less q e =
           let g = goes (answer_at ws p) q (sym s.follows ∙ e) in
           let o = progress most_bytes (single ws) p most_bytes g.0 in

@@ -1,23 +1,23 @@
 -- The parts of a line, one after another: space for each in turn, and what they come to together.
-use Prim.Native.Nat.{ℕ, ◌+◌, ◌-◌, ◌≤◌}
+use Prim.Native.Nat.{ℕ, ◌+◌, ◌-◌}
 use mathlib.Core.Path.{◌≡◌, refl, sym, ◌∙◌}
 use mathlib.Core.Bool.{Bool, true, false}
 use mathlib.Core.List.{List, [], ◌∷◌, ◌++◌, append-nil}
 use native.Mathlib.Omega.{arith}
-use lib.ListN.{length, take, drop}
+use lib.ListN.{take, drop}
 use Rattle.frame.specs.declared.Lengths.{Lengths}
 use Rattle.frame.specs.declared.Response.{Response}
 use Rattle.frame.specs.declared.Response.TheVariants.{Without, Plain, Checked}
 use Rattle.frame.specs.declared.Fault.{Fault}
 use Rattle.frame.specs.declared.Reading.{Reading}
-use Rattle.frame.specs.declared.Reading.TheVariants.{Frame}
+use Rattle.frame.specs.declared.ReadRefusal.{ReadRefusal}
+use Rattle.std.specs.Prelude.{Result}
 use Rattle.frame.specs.ReadPromise.{fault_number}
-use Rattle.units.specs.declared.Place.{Place}
 use Rattle.desk_text.specs.Grammar.{newline, tab}
 use Rattle.desk_text.specs.Numerals.{decimal, hex}
 use Rattle.desk_text.specs.Report.{w_refused, w_frame, w_fault, w_none, refusal}
 use Rattle.desk_answer.specs.Shown.{is_without, mark_of}
-use Rattle.desk_report.specs.Laying.{Laid, Space, tabbed, response_end, frame_end, fault_end, end_of, Holds, place_of, line_in}
+use Rattle.desk_report.specs.Laying.{Laid, Space, tabbed, response_end, frame_end, fault_end, end_of, place_of, line_in}
 use Rattle.desk_report.proofs.Laying.{then, space_first, space_next}
 
 -- ## A response
@@ -143,21 +143,9 @@ module _ {at : ℕ} {o : List ℕ} (f : Fault) (h : Space at (fault_end f) o) wh
         unfolding fault_end
         fault_laid z = rw e at (then x (then y z))
 
--- ## An answer
-
-module _ {at : ℕ} {o : List ℕ} {r x : Reading} (e : r ≡ x) (s : List ℕ) where
-  pub end_space : Space at (end_of r s) o → Space at (end_of x s) o
-  end_space h = rw e at h
-
-  pub end_laid : {k : ℕ} {p : List ℕ} → Laid at (end_of x s) o p k → Laid at (end_of r s) o p k
-  end_laid l = rw e l
-
-pub frame_holds : {r : Reading} {n : Lengths} {kind : Response} {a b : Place} (s : List ℕ) → r ≡ Frame n kind a b → Holds r s → n.main + n.response ≤ length s
-frame_holds s e h = rw e at h
-
 -- ## A line
 
-module _ {at : ℕ} {o : List ℕ} (customer vehicle : List ℕ) (r : Reading) (s : List ℕ) (h : Space at (line_in customer vehicle r s) o) where
+module _ {at : ℕ} {o : List ℕ} (customer vehicle : List ℕ) (r : Result Reading ReadRefusal) (s : List ℕ) (h : Space at (line_in customer vehicle r s) o) where
   abbrev after_vehicle : List ℕ
   after_vehicle = tabbed (decimal (place_of r)) ++ end_of r s
 

@@ -1,12 +1,13 @@
 -- Machinery.
 -- What the steps of printing lay down, told by the definitions of the rooms below.
-use Rattle.std.specs.Prelude.{ℕ, ◌+◌, ◌≤◌, ◌≡◌, List, [], ◌∷◌, ◌++◌, length, take, drop}
+use Rattle.std.specs.Prelude.{ℕ, ◌+◌, ◌≤◌, ◌≡◌, List, [], ◌∷◌, ◌++◌, length, take, drop, Result, Ok, Err}
 use Rattle.std.proofs.lemmas.List.Edits.{sets}
 use Rattle.frame.specs.declared.Lengths.{Lengths}
 use Rattle.frame.specs.declared.Response.{Response}
 use Rattle.frame.specs.declared.Fault.{Fault}
 use Rattle.frame.specs.declared.Reading.{Reading}
-use Rattle.frame.specs.declared.Reading.TheVariants.{Frame, Quiet, Unfinished, Faulty, PastRecording, FewLentBytes}
+use Rattle.frame.specs.declared.Reading.TheVariants.{Frame, Quiet, Unfinished, Faulty}
+use Rattle.frame.specs.declared.ReadRefusal.{ReadRefusal}
 use Rattle.frame.specs.ReadPromise.{fault_number}
 use Rattle.desk_text.specs.Grammar.{newline, tab}
 use Rattle.desk_text.specs.Numerals.{decimal, hex}
@@ -38,32 +39,29 @@ unfoldable pub fault_end : Fault → List ℕ
 fault_end f = line_of ((w_fault ++ decimal (fault_number f)) ∷ w_none ∷ w_none ∷ [])
 
 -- .. and of an answer
-abbrev pub end_of : Reading → List ℕ → List ℕ
-end_of (Frame lengths response opening next) s = frame_end lengths response s
-end_of (Quiet next) s = line_of (w_quiet ∷ w_none ∷ w_none ∷ [])
-end_of (Unfinished opening) s = line_of (w_unfinished ∷ w_none ∷ w_none ∷ [])
-end_of (Faulty fault next) s = fault_end fault
-end_of PastRecording s = line_of (w_none ∷ w_none ∷ w_none ∷ [])
-end_of FewLentBytes s = line_of (w_none ∷ w_none ∷ w_none ∷ [])
+abbrev pub end_of : Result Reading ReadRefusal → List ℕ → List ℕ
+end_of (Ok (Frame lengths response opening next)) s = frame_end lengths response s
+end_of (Ok (Quiet next)) s = line_of (w_quiet ∷ w_none ∷ w_none ∷ [])
+end_of (Ok (Unfinished opening)) s = line_of (w_unfinished ∷ w_none ∷ w_none ∷ [])
+end_of (Ok (Faulty fault next)) s = fault_end fault
+end_of (Err refusal) s = line_of (w_none ∷ w_none ∷ w_none ∷ [])
 
 -- the bytes of a frame stand in s
-abbrev pub Holds : Reading → List ℕ → Type 0
-Holds (Frame lengths response opening next) s = lengths.main + lengths.response ≤ length s
-Holds (Quiet next) s = Unit {0}
-Holds (Unfinished opening) s = Unit {0}
-Holds (Faulty fault next) s = Unit {0}
-Holds PastRecording s = Unit {0}
-Holds FewLentBytes s = Unit {0}
+abbrev pub Holds : Result Reading ReadRefusal → List ℕ → Type 0
+Holds (Ok (Frame lengths response opening next)) s = lengths.main + lengths.response ≤ length s
+Holds (Ok (Quiet next)) s = Unit {0}
+Holds (Ok (Unfinished opening)) s = Unit {0}
+Holds (Ok (Faulty fault next)) s = Unit {0}
+Holds (Err refusal) s = Unit {0}
 
 -- where an answer stands
-abbrev pub place_of : Reading → ℕ
-place_of (Frame lengths response opening next) = opening.0
-place_of (Quiet next) = next.0
-place_of (Unfinished opening) = opening.0
-place_of (Faulty fault next) = next.0
-place_of PastRecording = 0
-place_of FewLentBytes = 0
+abbrev pub place_of : Result Reading ReadRefusal → ℕ
+place_of (Ok (Frame lengths response opening next)) = opening.0
+place_of (Ok (Quiet next)) = next.0
+place_of (Ok (Unfinished opening)) = opening.0
+place_of (Ok (Faulty fault next)) = next.0
+place_of (Err refusal) = 0
 
 -- the line of an answer
-unfoldable pub line_in : List ℕ → List ℕ → Reading → List ℕ → List ℕ
+unfoldable pub line_in : List ℕ → List ℕ → Result Reading ReadRefusal → List ℕ → List ℕ
 line_in customer vehicle r s = tabbed customer ++ (tabbed vehicle ++ (tabbed (decimal (place_of r)) ++ end_of r s))

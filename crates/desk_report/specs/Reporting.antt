@@ -1,14 +1,12 @@
 -- Machinery.
 -- What printing a whole report comes to, from any position of a recording on.
-use Rattle.std.specs.Prelude.{ℕ, ◌+◌, ◌-◌, ◌≤◌, ◌≡◌, List, length, take, drop}
+use Rattle.std.specs.Prelude.{ℕ, ◌+◌, ◌-◌, ◌≤◌, ◌≡◌, List, length, take, drop, Option, Some, None}
 use Rattle.frame.specs.Faults.{most_bytes}
 use Rattle.frame.specs.Reading.{Outcome, good, quiet, unfinished, faulty, refused, reading}
 use Rattle.frame.proofs.RecordingOn.{answers_in}
 use Rattle.desk_text.specs.declared.Labels.{Labels}
 use Rattle.desk_text.specs.Report.{answer_text, answers_text}
 use Rattle.desk_text.specs.LabelPlaces.{customer_place}
-use Rattle.desk_answer.specs.declared.Next.{Next}
-use Rattle.desk_answer.specs.declared.Next.TheVariants.{At, Nowhere}
 use Rattle.desk_report.specs.declared.lines.Step.{Step}
 use Rattle.desk_report.specs.Laying.{Laid}
 
@@ -17,12 +15,12 @@ abbrev pub answer_at : List ℕ → ℕ → Outcome
 answer_at ws p = reading ws p most_bytes
 
 -- .. and where reading goes on after it
-abbrev pub onwards : Outcome → Next
-onwards (good f) = At f.next
-onwards (quiet next) = Nowhere
-onwards (unfinished opening) = Nowhere
-onwards (faulty number next) = At next
-onwards (refused number) = Nowhere
+abbrev pub onwards : Outcome → Option ℕ
+onwards (good f) = Some f.next
+onwards (quiet next) = None
+onwards (unfinished opening) = None
+onwards (faulty number next) = Some next
+onwards (refused number) = None
 
 -- the lines of the answers from p on
 unfoldable pub text_from : List ℕ → List ℕ → List ℕ → ℕ → List ℕ

@@ -5,47 +5,39 @@ ghost use Rattle.desk_report.specs.Laying.{Laid, Space, end_of, Holds, place_of,
 ghost use Rattle.desk_report.specs.Reporting.{answer_at, text_from, Stepped};
 
 use crate::fields::{put, put_fault, put_field, put_frame, put_place};
-use desk_answer::Next;
-use frame::{MOST_BYTES, Reading};
+use frame::{MOST_BYTES, ReadRefusal, Reading};
 use units::Place;
 
 // The kind and the parts of an answer; a frame's bytes stand first in s.
-fn put_end(reading: Reading, s: &[u8], lent: &mut [u8], at: usize) -> usize
-    requires holds { Holds reading s.now }
-    requires space { Space at (end_of reading s.now) lent.old }
-    ensures { Laid at (end_of reading s.now) lent.old lent.new result }
+fn put_end(answer: Result<Reading, ReadRefusal>, s: &[u8], lent: &mut [u8], at: usize) -> usize
+    requires holds { Holds answer s.now }
+    requires space { Space at (end_of answer s.now) lent.old }
+    ensures { Laid at (end_of answer s.now) lent.old lent.new result }
 {
-    match reading {
-        Reading::Frame {
-            lengths,
-            response,
-            opening: _,
-            next: _,
-        } => put_frame(lengths, response, s, lent, at),
-        Reading::Quiet { next: _ } => put(b"quiet\t-\t-\n", lent, at),
-        Reading::Unfinished { opening: _ } => put(b"unfinished\t-\t-\n", lent, at),
-        Reading::Faulty { fault, next: _ } => put_fault(fault, lent, at),
-        Reading::PastRecording => put(b"-\t-\t-\n", lent, at),
-        Reading::FewLentBytes => put(b"-\t-\t-\n", lent, at),
+    match answer {
+        Ok(
+            Reading::Frame {
+                lengths,
+                response,
+                ..
+            },
+        ) => put_frame(lengths, response, s, lent, at),
+        Ok(Reading::Quiet { .. }) => put(b"quiet\t-\t-\n", lent, at),
+        Ok(Reading::Unfinished { .. }) => put(b"unfinished\t-\t-\n", lent, at),
+        Ok(Reading::Faulty { fault, .. }) => put_fault(fault, lent, at),
+        Err(_) => put(b"-\t-\t-\n", lent, at),
     }
 }
 
 // Where an answer stands: its opening, or its next position.
-fn place(reading: Reading) -> usize
-    ensures { result ≡ place_of reading }
+fn place(answer: Result<Reading, ReadRefusal>) -> usize
+    ensures { result ≡ place_of answer }
 {
-    match reading {
-        Reading::Frame {
-            lengths: _,
-            response: _,
-            opening,
-            next: _,
-        } => opening.0,
-        Reading::Quiet { next } => next.0,
-        Reading::Unfinished { opening } => opening.0,
-        Reading::Faulty { fault: _, next } => next.0,
-        Reading::PastRecording => 0,
-        Reading::FewLentBytes => 0,
+    match answer {
+        Ok(Reading::Frame { opening, .. } | Reading::Unfinished { opening }) => opening.0,
+        Ok(Reading::Quiet { next }) => next.0,
+        Ok(Reading::Faulty { next, .. }) => next.0,
+        Err(_) => 0,
     }
 }
 
@@ -53,26 +45,26 @@ fn place(reading: Reading) -> usize
 fn put_line(
     customer: &[u8],
     vehicle: &[u8],
-    reading: Reading,
+    answer: Result<Reading, ReadRefusal>,
     s: &[u8],
     lent: &mut [u8],
     at: usize,
 ) -> usize
-    requires holds { Holds reading s.now }
-    requires space { Space at (line_in customer.now vehicle.now reading s.now) lent.old }
-    ensures { Laid at (line_in customer.now vehicle.now reading s.now) lent.old lent.new result }
+    requires holds { Holds answer s.now }
+    requires space { Space at (line_in customer.now vehicle.now answer s.now) lent.old }
+    ensures { Laid at (line_in customer.now vehicle.now answer s.now) lent.old lent.new result }
 {
     let k1 = put_field(customer, lent, at);
     let k2 = put_field(vehicle, lent, k1);
-    let k3 = put_place(place(reading), lent, k2);
-    put_end(reading, s, lent, k3)
+    let k3 = put_place(place(answer), lent, k2);
+    put_end(answer, s, lent, k3)
 }
 
 // Where the line of an answer ends, and where reading goes on.
 #[derive(Clone, Copy)]
 pub(crate) struct Step {
     pub end: usize,
-    pub next: Next,
+    pub next: Option<usize>,
 }
 
 // The line of the answer at a position.
@@ -89,9 +81,9 @@ fn put_answer(
     ensures { Stepped customer.now vehicle.now widths.now from at lent.old lent.new result }
 {
     let mut s = [0u8; MOST_BYTES];
-    let reading = frame_read::read(widths, Place(from), &mut s);
-    let end = put_line(customer, vehicle, reading, &s, lent, at);
-    let next = desk_answer::after(reading);
+    let answer = frame_read::read(widths, Place(from), &mut s);
+    let end = put_line(customer, vehicle, answer, &s, lent, at);
+    let next = desk_answer::after(answer);
     Step { end, next }
 }
 
@@ -111,12 +103,9 @@ pub(crate) fn put_lines(
     loop {
         let step = put_answer(customer, vehicle, widths, p, lent, k);
         k = step.end;
-        let next = step.next;
-        match next {
-            Next::At(q) => {
-                p = q;
-            }
-            Next::Nowhere => return k,
-        }
+        let Some(q) = step.next else {
+            return k;
+        };
+        p = q;
     }
 }

@@ -1,11 +1,12 @@
 -- Laws.
 -- When the call that reads gives which answer, by the number that it tells: each row of the table "What reading answers", and
 -- 31 and 32, each exactly when document 01 says so. And reading again from the next position of 1 or 2 answers the same.
-use Rattle.std.specs.Prelude.{ℕ, ◌+◌, ◌≤◌, ◌<◌, ◌≡◌, refl, Bool, true, false, cond, List, [], ◌↔◌, eqb, leb, length}
+use Rattle.std.specs.Prelude.{ℕ, ◌+◌, ◌≤◌, ◌<◌, ◌≡◌, refl, Bool, true, false, cond, List, [], ◌↔◌, eqb, leb, length, Result}
 use Rattle.std.proofs.Common.{sym, ap, ◌∙◌, arith, eqb-true}
 use Rattle.laws.specs.Rules.{first_rule, FirstToHold, TurnedAway}
 use Rattle.laws.specs.RuleLaws.{first_is}
 use Rattle.frame.specs.declared.Reading.{Reading}
+use Rattle.frame.specs.declared.ReadRefusal.{ReadRefusal}
 use Rattle.frame.specs.Signs.{wrong_of}
 use Rattle.frame.specs.Line.{Line, symbol_at, single, Found, nowhere, at, opening}
 use Rattle.frame.specs.Standing.{stands}
@@ -84,7 +85,7 @@ unwritten (unfinished opening) h = refl
 unwritten (faulty number next) h = refl
 unwritten (refused number) h = refl
 
-module _ {ws : List ℕ} {p : ℕ} {entry exit : List ℕ} {r : Reading} (q : ReadPromise ws p entry exit r) where
+module _ {ws : List ℕ} {p : ℕ} {entry exit : List ℕ} {r : Result Reading ReadRefusal} (q : ReadPromise ws p entry exit r) where
   its_number : (told r).number ≡ (tells (reading ws p (length entry))).number
   its_number = ap (λ (t : Told). t.number) q.tells_it
 
@@ -132,7 +133,7 @@ unfinished_again limit l p lent lent' o h u =
     opens = record { from = omega arith; end = u.opens.end; none_before = λ j a b. absurd (omega arith); followed = u.opens.followed }
 
 -- Reading again from the next position of 1 or 2, with bytes enough lent, answers the same.
-module _ {ws : List ℕ} {p : ℕ} {entry exit entry' exit' : List ℕ} {r r' : Reading}
+module _ {ws : List ℕ} {p : ℕ} {entry exit entry' exit' : List ℕ} {r r' : Result Reading ReadRefusal}
     (q : ReadPromise ws p entry exit r) (q' : ReadPromise ws (told r).next entry' exit' r') (enough : most_bytes ≤ length entry') where
   -- the answer to reading again, where the first comes to x and so does reading from its next position
   same_again : (x : Outcome) → reading ws p (length entry) ≡ x → reading ws (tells x).next (length entry') ≡ x → told r' ≡ told r

@@ -1,7 +1,7 @@
 -- Laws.
 -- Demand 2 as a caller sees it: the two calls, one after the other, on lent memory. Everything here is said of the calls'
 -- promises, so it holds of whatever meets them.
-use Rattle.std.specs.Prelude.{ℕ, ◌+◌, ◌-◌, ◌≤◌, ◌<◌, ◌≡◌, refl, true, false, List, [], ◌++◌, length, drop}
+use Rattle.std.specs.Prelude.{ℕ, ◌+◌, ◌-◌, ◌≤◌, ◌<◌, ◌≡◌, refl, true, false, List, [], ◌++◌, length, drop, Result, Ok}
 use Rattle.std.proofs.Common.{sym, ap, ◌∙◌, append_assoc, arith}
 use Rattle.std.proofs.lemmas.List.{take-append-le}
 use Rattle.std.proofs.Math.Seq.{take-append_seam, drop-append_seam}
@@ -13,6 +13,7 @@ use Rattle.frame.specs.declared.Lengths.{Lengths}
 use Rattle.frame.specs.declared.Response.{Response}
 use Rattle.frame.specs.declared.Response.TheVariants.{Without, Plain, Checked}
 use Rattle.frame.specs.declared.Reading.{Reading}
+use Rattle.frame.specs.declared.ReadRefusal.{ReadRefusal}
 use Rattle.frame.specs.declared.Reading.TheVariants.{Frame}
 use Rattle.frame.specs.declared.Writing.{Writing}
 use Rattle.frame.specs.declared.Writing.TheVariants.{Words}
@@ -39,7 +40,7 @@ use Rattle.frame.specs.WriteStated.{WrittenAgain, main_taken, response_taken}
 -- with a frame of the message's own lengths, kind and places, whose bytes stand first in the lent bytes.
 pub written_then_read : (c : Clock) (main : List ℕ) (kind : Response) (rs : List ℕ) → good_of c ≡ true → bad_message main kind rs ≡ false → Bytes main → Bytes rs
     → (entry exit : List ℕ) (wrote : Writing) → most_words ≤ length entry → WritePromise c main kind rs entry exit wrote
-    → (lent left : List ℕ) (answer : Reading) → most_bytes ≤ length lent → ReadPromise exit 0 lent left answer
+    → (lent left : List ℕ) (answer : Result Reading ReadRefusal) → most_bytes ≤ length lent → ReadPromise exit 0 lent left answer
     → (wrote ≡ Words (length (frame_words c main kind rs)))
     × (told answer ≡ tells (good (frame_sent main kind rs 0 (length (frame_words c main kind rs) - 1))))
     × (left ≡ (with_check main ++ response_sent kind rs) ++ drop (length (with_check main ++ response_sent kind rs)) lent)
@@ -75,10 +76,10 @@ zero_not : {A : Type 0} {n : ℕ} → 0 ≡ n → 0 < n → A
 zero_not e h = absurd (omega arith)
 
 framed : (ws : List ℕ) (p lent : ℕ) (lengths : Lengths) (kind : Response) (o k : Place)
-    → told (Frame lengths kind o k) ≡ tells (reading ws p lent) → Read ws p lent lengths kind o.0 k.0
+    → told (Ok (Frame lengths kind o k)) ≡ tells (reading ws p lent) → Read ws p lent lengths kind o.0 k.0
 framed ws p lent lengths kind o k e = go (reading ws p lent) (comes most_bytes (single ws) p lent) refl e
   where
-    by : (q : ℕ) (x : Outcome) → Decision most_bytes (single ws) q x → reading ws p lent ≡ x → told (Frame lengths kind o k) ≡ tells x → Read ws p lent lengths kind o.0 k.0
+    by : (q : ℕ) (x : Outcome) → Decision most_bytes (single ws) q x → reading ws p lent ≡ x → told (Ok (Frame lengths kind o k)) ≡ tells x → Read ws p lent lengths kind o.0 k.0
     by q x (is_unfinished u) f d = zero_not (ap (λ t. t.number) d) (omega arith)
     by q x (is_good {k = j} u v w) f d =
         record {
@@ -92,7 +93,7 @@ framed ws p lent lengths kind o k e = go (reading ws p lent) (comes most_bytes (
         }
     by q x (is_faulty {k = j} u v) f d = zero_not (ap (λ t. t.number) d) v
 
-    go : (x : Outcome) → ReadCase most_bytes (single ws) p lent x → reading ws p lent ≡ x → told (Frame lengths kind o k) ≡ tells x → Read ws p lent lengths kind o.0 k.0
+    go : (x : Outcome) → ReadCase most_bytes (single ws) p lent x → reading ws p lent ≡ x → told (Ok (Frame lengths kind o k)) ≡ tells x → Read ws p lent lengths kind o.0 k.0
     go x (is_past h) f d = zero_not (ap (λ t. t.number) d) (omega arith)
     go x (is_short h l) f d = zero_not (ap (λ t. t.number) d) (omega arith)
     go x (is_quiet h l) f d = zero_not (ap (λ t. t.number) d) (omega arith)
@@ -113,7 +114,7 @@ module _ (lengths : Lengths) (main response rest : List ℕ) (m : lengths.main �
 -- A frame is read into lent bytes, and its parts, taken from there without their check bytes, are written at the nominal
 -- clock: the words are the recording's own intervals from the opening to the closing end, at nominal widths.
 pub read_then_write : (ws : List ℕ) (p : ℕ) (lent left : List ℕ) (lengths : Lengths) (kind : Response) (o k : Place)
-    → ReadPromise ws p lent left (Frame lengths kind o k)
+    → ReadPromise ws p lent left (Ok (Frame lengths kind o k))
     → (entry exit : List ℕ) (answer : Writing)
     → WritePromise nominal_clock (main_taken lengths left) kind (response_taken kind lengths left) entry exit answer → most_words ≤ length entry
     → (answer ≡ Words (k.0 - o.0 + 1))

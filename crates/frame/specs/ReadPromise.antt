@@ -1,12 +1,14 @@
 -- Definitions.
 -- The answer of the call that reads, set out as document 01 tells it: its number, and the values that go with it.
-use Rattle.std.specs.Prelude.{ℕ, ◌≡◌, List, [], ◌++◌, length, drop}
+use Rattle.std.specs.Prelude.{ℕ, ◌≡◌, List, [], ◌++◌, length, drop, Result, Ok, Err}
 use Rattle.frame.specs.declared.Response.{Response}
 use Rattle.frame.specs.declared.Response.TheVariants.{Without}
 use Rattle.frame.specs.declared.Fault.{Fault}
 use Rattle.frame.specs.declared.Fault.TheVariants.{Noise, NoSof, Break, Stuck, LateSof, SplitByte, FewBytes, WrongCheck, EodAfterResponse, ThirteenthByte}
 use Rattle.frame.specs.declared.Reading.{Reading}
-use Rattle.frame.specs.declared.Reading.TheVariants.{Frame, Quiet, Unfinished, Faulty, PastRecording, FewLentBytes}
+use Rattle.frame.specs.declared.Reading.TheVariants.{Frame, Quiet, Unfinished, Faulty}
+use Rattle.frame.specs.declared.ReadRefusal.{ReadRefusal}
+use Rattle.frame.specs.declared.ReadRefusal.TheVariants.{PastRecording, FewLentBytes}
 use Rattle.frame.specs.Reading.{Outcome, good, quiet, unfinished, faulty, refused, reading}
 
 -- the number of each fault
@@ -37,14 +39,14 @@ bare number next opening =
     record { number = number; next = next; opening = opening; main_length = 0; response_length = 0; response = Without }
 
 -- the number and the values of each case of the call's answer
-abbrev pub told : Reading → Told
-told (Frame lengths response opening next) =
+abbrev pub told : Result Reading ReadRefusal → Told
+told (Ok (Frame lengths response opening next)) =
     record { number = 0; next = next.0; opening = opening.0; main_length = lengths.main; response_length = lengths.response; response = response }
-told (Quiet next) = bare 1 next.0 0
-told (Unfinished opening) = bare 2 opening.0 opening.0
-told (Faulty fault next) = bare (fault_number fault) next.0 0
-told PastRecording = bare 31 0 0
-told FewLentBytes = bare 32 0 0
+told (Ok (Quiet next)) = bare 1 next.0 0
+told (Ok (Unfinished opening)) = bare 2 opening.0 opening.0
+told (Ok (Faulty fault next)) = bare (fault_number fault) next.0 0
+told (Err PastRecording) = bare 31 0 0
+told (Err FewLentBytes) = bare 32 0 0
 
 -- the number and the values of each outcome
 abbrev pub tells : Outcome → Told
@@ -69,6 +71,6 @@ abbrev pub lent_after : Outcome → List ℕ → List ℕ
 lent_after r lent = written r ++ drop (length (written r)) lent
 
 -- The promise of reading the intervals ws from position p: the answer, and the lent bytes from entry to exit.
-pub record ReadPromise (ws : List ℕ) (p : ℕ) (entry exit : List ℕ) (answer : Reading) : Type 0 where
+pub record ReadPromise (ws : List ℕ) (p : ℕ) (entry exit : List ℕ) (answer : Result Reading ReadRefusal) : Type 0 where
   pub tells_it : told answer ≡ tells (reading ws p (length entry))
   pub lends_it : exit ≡ lent_after (reading ws p (length entry)) entry

@@ -5,7 +5,7 @@
 use units::Place;
 
 // How a frame was answered by another controller: not at all, with bytes alone, or with bytes and a check byte of their own.
-#[derive(Clone, Copy)]
+#[derive(Clone, Copy, Debug, PartialEq, Eq)]
 pub enum Response {
     Without,
     Plain,
@@ -13,14 +13,14 @@ pub enum Response {
 }
 
 // How many bytes each part of a frame has, its check byte included.
-#[derive(Clone, Copy)]
+#[derive(Clone, Copy, Debug, PartialEq, Eq)]
 pub struct Lengths {
     pub main: usize,
     pub response: usize,
 }
 
 // What is wrong with the interval at fault: document 01's numbers 11 to 20.
-#[derive(Clone, Copy)]
+#[derive(Clone, Copy, Debug, PartialEq, Eq)]
 pub enum Fault {
     Noise,
     NoSof,
@@ -35,7 +35,7 @@ pub enum Fault {
 }
 
 // What an interval shows inside a frame: it is wrong by itself, a SOF, a bit, or what shuts a part, an EOD or an end.
-#[derive(Clone, Copy)]
+#[derive(Clone, Copy, Debug, PartialEq, Eq)]
 pub enum Sign {
     Wrong(Fault),
     Sof,
@@ -49,8 +49,8 @@ pub const MOST_BYTES: usize = 12;
 // The words that the longest frame takes. So many have to be lent for each.
 pub const MOST_WORDS: usize = 101;
 
-// What reading from a position answers. PastRecording and FewLentBytes are refusals, and change nothing.
-#[derive(Clone, Copy)]
+// What reading from a position answers.
+#[derive(Clone, Copy, Debug, PartialEq, Eq)]
 pub enum Reading {
     Frame {
         lengths: Lengths,
@@ -68,6 +68,11 @@ pub enum Reading {
         fault: Fault,
         next: Place,
     },
+}
+
+// Why reading is turned away: the position is past the recording, or too few bytes are lent. A refusal changes nothing.
+#[derive(Clone, Copy, Debug, PartialEq, Eq)]
+pub enum ReadRefusal {
     PastRecording,
     FewLentBytes,
 }

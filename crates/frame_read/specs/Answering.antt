@@ -1,6 +1,6 @@
 -- Machinery.
 -- What the pieces of reading answer: the search for an opening, the frame that is closed, and the lent bytes.
-use Rattle.std.specs.Prelude.{ℕ, ◌≡◌, List}
+use Rattle.std.specs.Prelude.{ℕ, ◌≡◌, List, Ok}
 use Rattle.units.specs.declared.Place.{Place}
 use Rattle.frame.specs.declared.Reading.{Reading}
 use Rattle.frame.specs.declared.Reading.TheVariants.{Frame}
@@ -26,5 +26,5 @@ frame_of p opening closing = Frame p.lengths p.response (placed opening) (placed
 
 -- the answer and the lent bytes at exit tell of an outcome
 pub record Meets (outcome : Outcome) (entry exit : List ℕ) (answer : Reading) : Type 0 where
-  pub tells_it : told answer ≡ tells outcome
+  pub tells_it : told (Ok answer) ≡ tells outcome
   pub lends_it : exit ≡ lent_after outcome entry

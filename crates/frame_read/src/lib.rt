@@ -11,7 +11,7 @@ ghost use Rattle.frame.specs.ReadPromise.{ReadPromise};
 ghost use Rattle.frame_parts.specs.Parts.{parts_of};
 ghost use Rattle.frame_read.specs.Answering.{found_by, frame_of, Meets};
 
-use frame::{MOST_BYTES, Reading};
+use frame::{MOST_BYTES, ReadRefusal, Reading};
 use frame_machine::{Event, Machine};
 use units::{Micros, Place};
 
@@ -123,15 +123,15 @@ fn read_from(intervals: &[u32], from: usize, lent: &mut [u8]) -> Reading
 
 // Reading from a position: document 01, "What reading answers".
 #[tactic(auto, using(frame::proofs::Outcomes::reads_31, frame::proofs::Outcomes::reads_32, frame::proofs::Outcomes::reads_by))]
-pub fn read(intervals: &[u32], from: Place, lent: &mut [u8]) -> Reading
+pub fn read(intervals: &[u32], from: Place, lent: &mut [u8]) -> Result<Reading, ReadRefusal>
     ensures { ReadPromise intervals.now from.0 lent.old lent.new result }
 {
     let p = from.0;
     if intervals.len() < p {
-        return Reading::PastRecording;
+        return Err(ReadRefusal::PastRecording);
     }
     if lent.len() < MOST_BYTES {
-        return Reading::FewLentBytes;
+        return Err(ReadRefusal::FewLentBytes);
     }
-    read_from(intervals, p, lent)
+    Ok(read_from(intervals, p, lent))
 }

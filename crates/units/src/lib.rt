@@ -5,15 +5,15 @@
 #![tactic(auto)]
 
 // A place in a recording: the number of intervals that stand before it. Even places are passive, odd ones active.
-#[derive(Clone, Copy)]
+#[derive(Clone, Copy, Debug, PartialEq, Eq)]
 pub struct Place(pub usize);
 
 // A width: the time that an interval lasts, in microseconds. Laid out as C has it, since clocks hold widths and
 // other languages hand clocks over.
 #[repr(C)]
-#[derive(Clone, Copy)]
+#[derive(Clone, Copy, Debug, PartialEq, Eq)]
 pub struct Micros(pub u32);
 
 // A place in a recording that is read as it comes, counted in 64 bits.
-#[derive(Clone, Copy)]
+#[derive(Clone, Copy, Debug, PartialEq, Eq)]
 pub struct LongPlace(pub u64);

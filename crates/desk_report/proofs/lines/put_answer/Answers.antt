@@ -7,7 +7,7 @@ pub put_line-end-requires : goal.put_line-end-requires
 put_line-end-requires c =
     let a = c.args in
     let h = c.requires in
-    let q = c.read-reading.ensures in
+    let q = c.read-answer.ensures in
     record {
       holds = (read_prints a.customer.now a.vehicle.now a.widths.now a.from h.from_in_bounds refl q).holds;
       space = answer_space a.customer.now a.vehicle.now a.widths.now a.from h.from_in_bounds refl q h.space;
@@ -16,4 +16,4 @@ put_line-end-requires c =
 pub returns : goal.returns
 returns c =
     let a = c.args in
-    answer_stepped a.customer.now a.vehicle.now a.widths.now a.from c.requires.from_in_bounds refl c.read-reading.ensures c.put_line-end.ensures c.after-next.ensures
+    answer_stepped a.customer.now a.vehicle.now a.widths.now a.from c.requires.from_in_bounds refl c.read-answer.ensures c.put_line-end.ensures c.after-next.ensures

@@ -15,5 +15,5 @@ loop-q-smaller c = search (rules, left_less)
 pub loop-q-preserved : goal.loop-q-preserved
 loop-q-preserved c = search (rules, left_next)
 
-pub returns-in-Nowhere : goal.returns-in-Nowhere
-returns-in-Nowhere c = search (rules, left_end)
+pub returns-in_default : goal.returns-in_default
+returns-in_default c = search (rules, left_end)
