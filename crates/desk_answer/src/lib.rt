@@ -24,11 +24,7 @@ pub fn after(answer: Result<Reading, ReadRefusal>) -> Option<usize>
 pub fn without(kind: Response) -> bool
     ensures { result ≡ is_without kind }
 {
-    match kind {
-        Response::Without => true,
-        Response::Plain => false,
-        Response::Checked => false,
-    }
+    matches!(kind, Response::Without)
 }
 
 // What the last field of a frame's line begins with: the mark of its response, or the whole of it where there is none.
@@ -68,8 +64,5 @@ pub fn low(b: u8) -> u8
 pub fn too_little(words: usize, bytes: usize) -> bool
     ensures { result ≡ (lent_short words bytes).says }
 {
-    if words < MOST_WIDTHS {
-        return true;
-    }
-    bytes < MOST_TEXT
+    words < MOST_WIDTHS || bytes < MOST_TEXT
 }

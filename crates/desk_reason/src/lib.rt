@@ -13,7 +13,7 @@ const NEWLINE: u8 = 10;
 const CARRIAGE_RETURN: u8 = 13;
 
 // Why a line is bad.
-#[derive(Clone, Copy)]
+#[derive(Clone, Copy, Debug, PartialEq, Eq)]
 pub enum Reason {
     // there is no such line
     Missing,
@@ -30,41 +30,37 @@ pub enum Reason {
 }
 
 // Why a line of an input is bad, the lines counted from 1, of a line that is bad.
+#[tactic(auto, using(crate::proofs::Skipping::sought_laws))]
 pub fn why_bad(input: &[u8], line: usize) -> Reason
     ensures { result ≡ reason_at line (lines input.now) }
 {
     let mut t = input;
-    let mut left = line;
-    while 1 < left {
-        let e = find(t, NEWLINE);
-        if e == t.len() {
+    for _n in 1..line {
+        let Some(e) = find(t, NEWLINE) else {
             return Reason::Missing;
-        }
-        left -= 1;
+        };
         t = &t[e + 1..];
     }
     why_first(t, line)
 }
 
 // Why the first line of a text is bad, which is that line of the input.
+#[tactic(auto, using(crate::proofs::Skipping::first_laws))]
 fn why_first(t: &[u8], line: usize) -> Reason
     ensures { result ≡ reason_of line (first_of t.now) }
 {
-    let e = find(t, NEWLINE);
-    if e == t.len() {
-        return open_reason(e);
+    match find(t, NEWLINE) {
+        Some(e) => closed_reason(ends_in_return(&t[..e]), line),
+        None => open_reason(t.len()),
     }
-    closed_reason(ends_in_return(&t[..e]), line)
 }
 
 // Whether the last byte of a line is a carriage return.
+#[tactic(auto, using(crate::proofs::Skipping::return_laws))]
 fn ends_in_return(l: &[u8]) -> bool
     ensures { result ≡ ends_in_return l.now }
 {
-    if l.len() == 0 {
-        return false;
-    }
-    l[l.len() - 1] == CARRIAGE_RETURN
+    matches!(l, [.., CARRIAGE_RETURN])
 }
 
 // Why a line of so many bytes is bad that no newline closes.
@@ -73,23 +69,24 @@ fn open_reason(length: usize) -> Reason
     ensures { result ≡ open_reason length }
 {
     if length == 0 {
-        return Reason::Missing;
+        Reason::Missing
+    } else {
+        Reason::Unclosed
     }
-    Reason::Unclosed
 }
 
 // Why a line is bad that a newline closes, with a carriage return before it or not.
+#[tactic(auto, unfolding(crate::specs::Reasons::closed_reason))]
 fn closed_reason(returned: bool, line: usize) -> Reason
     ensures { result ≡ closed_reason returned line }
 {
     if returned {
-        return Reason::CarriageReturn;
+        Reason::CarriageReturn
+    } else if line <= 1 {
+        Reason::NotOwn
+    } else if MOST_WIDTHS + 1 < line {
+        Reason::TooMany
+    } else {
+        Reason::NotWidth
     }
-    if line <= 1 {
-        return Reason::NotOwn;
-    }
-    if MOST_WIDTHS + 1 < line {
-        return Reason::TooMany;
-    }
-    Reason::NotWidth
 }

@@ -1,5 +1,5 @@
 -- The search for a byte: the first place of a byte is where the library's `position` finds it.
-use Rattle.std.specs.Prelude.{ℕ, None, Some, ◌+◌, Bool, true, false, ◌≡◌, ◌<◌, ◌≤◌, refl, cond, List, ◌∷◌, length, eqb, ltb, position, MatchOption, Option}
+use Rattle.std.specs.Prelude.{ℕ, None, Some, ◌+◌, Bool, true, false, ◌≡◌, ◌<◌, ◌≤◌, refl, cond, List, length, eqb, ltb, position, MatchOption, Option}
 use Rattle.std.specs.List.{position_or_len}
 use Rattle.std.proofs.Common.{arith, ltb-true, ltb-false}
 use Rattle.std.proofs.lemmas.List.Recursion.{is_position_or_len}
