@@ -1,2 +1,3 @@
 mod Searching
 mod Answers
+mod Undecided

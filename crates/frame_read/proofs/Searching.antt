@@ -1,4 +1,4 @@
--- What the two searches of reading cite: for the opening, at even places alone, and for the interval that decides.
+-- The search for the opening, at even places alone.
 use Prim.Native.Nat.{ℕ, zero, suc, ◌+◌, ◌-◌, ◌%◌, ◌≤◌, ◌<◌}
 use mathlib.Core.Path.{◌≡◌, refl, sym, ap, ◌∙◌}
 use mathlib.Core.Bool.{Bool, true, false, cond}
@@ -10,25 +10,12 @@ use lib.ListN.{length, get_or}
 use borrow.Author.Tests.{eq-eqb, ne_eqb}
 use Rattle.symbol.specs.Classes.{end_of}
 use Rattle.laws.specs.Tests.{up_to}
-use Rattle.frame.specs.Line.{single, end_at, Found, nowhere, at, first_in, opening}
-use Rattle.frame.specs.Faults.{most_bytes}
-use Rattle.frame.specs.Reading.{decides}
+use Rattle.frame.specs.Line.{single, end_at, Found, nowhere, at, opening}
 use Rattle.frame.proofs.ShownLaws.{end_width_law}
 use Rattle.frame.specs.FirstLaws.{first_at_law, first_empty, first_here, opening_is}
 use Rattle.frame.specs.ReadStated.{IsFirst}
 use Rattle.std.specs.Prelude.{Some, None}
 use Rattle.frame_read.specs.Answering.{found_by}
-
--- ## The interval that decides
-
-pub decides_here : (ws : List ℕ) (o i : ℕ) (b : Bool) → i < length ws → decides most_bytes (single ws) o i ≡ b
-    → first_in (decides most_bytes (single ws) o) i (length ws) ≡ cond b (at i) (first_in (decides most_bytes (single ws) o) (i + 1) (length ws))
-decides_here ws o i b h e = first_here (decides most_bytes (single ws) o) i (length ws) b h e
-
-pub decides_none : (ws : List ℕ) (o i : ℕ) → length ws ≤ i → first_in (decides most_bytes (single ws) o) i (length ws) ≡ nowhere
-decides_none ws o i h = first_empty (decides most_bytes (single ws) o) i (length ws) h
-
--- ## The opening
 
 pub open_none : (ws : List ℕ) (i : ℕ) → length ws ≤ i → opening (single ws) i ≡ nowhere
 open_none ws i h = opening_is (single ws) i ∙ first_empty (end_at (single ws)) i (length ws) h
