@@ -8,7 +8,7 @@ use frame_numbers::{DONE, FEW_LENT, QUIET, UNFINISHED, WITHOUT};
 use live::Asked;
 use live_answer::{HearRefusal, Heard};
 
-// What an interval answers. A value that the answer does not have is 0.
+// What an interval answers. A value that the answer does not have is 0, since C has it so: include/j1850.h.
 #[repr(C)]
 #[derive(Clone, Copy, Debug, PartialEq, Eq)]
 pub struct HeardAnswer {

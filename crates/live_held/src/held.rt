@@ -10,6 +10,7 @@ use frame_machine::{Machine, Phase};
 
 // The number of each phase in a reader; before an opening there is no frame and no phase. They come in the order of `Phase`, so
 // that the compiler adds 1 to a phase, or takes 1 from a number, where it would look them up.
+// A reader keeps numbers and no enum, since C lays it out and any bytes are one: `Live`.
 pub const NO_FRAME: u16 = 0;
 
 pub const SOF_NEXT: u16 = 1;

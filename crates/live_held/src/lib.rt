@@ -13,7 +13,7 @@ pub use held::{NO_FRAME, SOF_NEXT, held_by};
 use held::{inside_of, outside};
 
 // The places of a live reader: the place of the next interval, the position from which reading goes on, and the opening of
-// the frame that is being heard. `full` is not 0 once the last place has been heard.
+// the frame that is being heard. `full` is not 0 once the last place has been heard: no bool, since any bytes are a reader.
 #[repr(C)]
 #[derive(Clone, Copy, Debug, PartialEq, Eq)]
 pub struct Places {

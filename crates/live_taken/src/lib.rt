@@ -41,15 +41,15 @@ pub fn inside_frame(live: Live, width: Micros, lent: &mut [u8]) -> Fed
     let held = held_by(live.inside);
     let sign = frame_tests::sign_of(symbol::class(active, width));
     let stepped = frame_machine::step(MOST_BYTES, held, sign);
-    let mut kept = live.inside.kept;
     match stepped.event {
-        Event::Going => going(live, stepped.machine, kept),
+        Event::Going => going(live, stepped.machine, live.inside.kept),
         Event::Byte(byte) => {
+            let mut kept = live.inside.kept;
             kept[held.count] = byte;
             going(live, stepped.machine, kept)
         }
         Event::Closed => {
-            frame_parts::lay(kept, held.count, lent);
+            frame_parts::lay(live.inside.kept, held.count, lent);
             closed(live, held, end)
         }
         Event::Faulty(fault) => at_fault(live, fault, end),
