@@ -76,7 +76,8 @@ asked_idle [] (suc m) = asked_idle [] m
 asked_idle (s ∷ seats) m = rw (asked_idle seats m)
 
 -- they hear nothing
-heard_idle : (k : ℕ) (b : Bool) (seats : List Seat) (m : ℕ) → map (heard k b) (seats ++ replicate m (out Idle)) ≡ map (heard k b) seats ++ replicate m (out Idle)
+heard_idle : (k : ℕ) (b : Bool) (seats : List Seat) (m : ℕ)
+    → map (heard k b) (seats ++ replicate m (out Idle)) ≡ map (heard k b) seats ++ replicate m (out Idle)
 heard_idle k b [] zero = refl
 heard_idle k b [] (suc m) = ap (λ (r : List Seat). out Idle ∷ r) (heard_idle k b [] m)
 heard_idle k b (s ∷ seats) m = ap (λ (r : List Seat). heard k b s ∷ r) (heard_idle k b seats m)
@@ -85,23 +86,23 @@ heard_idle k b (s ∷ seats) m = ap (λ (r : List Seat). heard k b s ∷ r) (hea
 with_idle : ℕ → Course → Course
 with_idle m c = record { widths = c.widths; seats = c.seats ++ replicate m (out Idle) }
 
-play_idle : (n : ℕ) (active : Bool) (k : ℕ) (seats : List Seat) (m : ℕ) → play n active k (seats ++ replicate m (out Idle)) ≡ with_idle m (play n active k seats)
+play_idle : (n : ℕ) (active : Bool) (k : ℕ) (seats : List Seat) (m : ℕ)
+    → play n active k (seats ++ replicate m (out Idle)) ≡ with_idle m (play n active k seats)
 unfolding play with_idle
 play_idle zero active k seats m = refl
-play_idle (suc n) active k seats m = rw (asked_idle seats m) (go (nobody_asks (asked seats)) (play_idle n (not active) (suc k) (map (heard k (on_line active (lasts active (widths_of (asked seats))))) seats) m))
+play_idle (suc n) active k seats m =
+    let w : ℕ = lasts active (widths_of (asked seats)) in
+    let then : List Seat = map (heard k (on_line active w)) seats in
+    rw (asked_idle seats m, heard_idle k (on_line active w) seats m, play_idle n (not active) (suc k) then m)
+    (go (nobody_asks (asked seats)) w (play n (not active) (suc k) then))
   where
-    w : ℕ
-    w = lasts active (widths_of (asked seats))
+    go : (t : Bool) (w : ℕ) (c : Course)
+        → cond t (over (seats ++ replicate m (out Idle))) (bit_then w (with_idle m c)) ≡ with_idle m (cond t (over seats) (bit_then w c))
+    go true w c = refl
+    go false w c = refl
 
-    rest : Course
-    rest = play n (not active) (suc k) (map (heard k (on_line active w)) seats)
-
-    go : (t : Bool) → play n (not active) (suc k) (map (heard k (on_line active w)) seats ++ replicate m (out Idle)) ≡ with_idle m rest → cond t (over (seats ++ replicate m (out Idle))) (bit_then w (play n (not active) (suc k) (map (heard k (on_line active w)) (seats ++ replicate m (out Idle)))))
-        ≡ with_idle m (cond t (over seats) (bit_then w rest))
-    go true e = refl
-    go false e = rw (heard_idle k (on_line active w) seats m, e)
-
-fares_idle : (seats : List Seat) (m : ℕ) → map verdict_of (map fared_at (seats ++ replicate m (out Idle))) ≡ map verdict_of (map fared_at seats) ++ replicate m (verdict_of Idle)
+fares_idle : (seats : List Seat) (m : ℕ)
+    → map verdict_of (map fared_at (seats ++ replicate m (out Idle))) ≡ map verdict_of (map fared_at seats) ++ replicate m (verdict_of Idle)
 fares_idle [] zero = refl
 fares_idle [] (suc m) = ap (λ (r : List Verdict). verdict_of Idle ∷ r) (fares_idle [] m)
 fares_idle (s ∷ seats) m = ap (λ (r : List Verdict). verdict_of (fared_at s) ∷ r) (fares_idle seats m)
@@ -114,12 +115,14 @@ unfolding course_lent nobody_sent
 nobody_sends row lent h r e = rw (lt-ltb (length lent) most_words h, e) (record { counts = refl; fares = refl; leaves = refl })
 
 -- Words enough: the bits of the round are sent.
-pub all_send : (row : List Station) (lent left : List ℕ) → most_words ≤ length lent → (r : Contended) → ContendedIn (course_on (map clipped row)) lent left r → ContendedBy row lent left r
+pub all_send : (row : List Station) (lent left : List ℕ) → most_words ≤ length lent
+    → (r : Contended) → ContendedIn (course_on (map clipped row)) lent left r → ContendedBy row lent left r
 unfolding course_lent
 all_send row lent left h r p = rw (le-ltb (length lent) most_words h) p
 
 -- What is sent over the lanes of the stations up to the last holder are the bits of the round.
-module _ (row : List Station) (n : length row ≡ most_stations) (places : ℕ) (s : Holders row places) (ls : List Lane) (begun : seats_at false 0 ls ≡ map place_of (take places row)) where
+module _ (row : List Station) (n : length row ≡ most_stations) (places : ℕ) (s : Holders row places)
+    (ls : List Lane) (begun : seats_at false 0 ls ≡ map place_of (take places row)) where
   same : course_on (map clipped row) ≡ with_idle (most_stations - places) (course_of ls)
   unfolding course_on with_idle
   same =
@@ -134,7 +137,8 @@ module _ (row : List Station) (n : length row ≡ most_stations) (places : ℕ) 
       three (s ∷ l) = ap (λ (r : List Seat). place_of s ∷ r) (three l)
 
   pub contended : (ls' : List Lane) (lent left : List ℕ) (bits : ℕ) → SendsBits ls ls' lent left bits → (verdicts : List Verdict)
-      → verdicts ≡ map verdict_at ls' ++ replicate (most_stations - places) (verdict_of Idle) → ContendedIn (course_on (map clipped row)) lent left (record { bits = bits; verdicts = verdicts })
+      → verdicts ≡ map verdict_at ls' ++ replicate (most_stations - places) (verdict_of Idle)
+      → ContendedIn (course_on (map clipped row)) lent left (record { bits = bits; verdicts = verdicts })
   unfolding with_idle
   contended ls' lent left bits t verdicts v =
       record {

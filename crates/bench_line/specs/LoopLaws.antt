@@ -43,8 +43,9 @@ one_more : (active : Bool) (seats : List Seat) (s : Seat) → taken_in active (a
 one_more active seats s = taken_more active (asked seats) s ∙ ap (asked_by active) (sym (asked_more seats s))
 
 -- The places before i of a list of lanes ask this together; one place more.
-pub ask_more : (active : Bool) (j : ℕ) (ls : List Lane) (i : ℕ) (v : Option ℕ) → v ≡ asked_by active (asked (seats_at active j (take i ls))) → i < length ls → (l : Lane) → l ≡ get_or ls i l
-    → (ask : Ask) → ask ≡ ask_of l active j → (u : Option ℕ) → u ≡ taken_in active v ask → u ≡ asked_by active (asked (seats_at active j (take (i + 1) ls)))
+pub ask_more : (active : Bool) (j : ℕ) (ls : List Lane) (i : ℕ) (v : Option ℕ) → v ≡ asked_by active (asked (seats_at active j (take i ls)))
+    → i < length ls → (l : Lane) → l ≡ get_or ls i l → (ask : Ask) → ask ≡ ask_of l active j → (u : Option ℕ) → u ≡ taken_in active v ask
+    → u ≡ asked_by active (asked (seats_at active j (take (i + 1) ls)))
 ask_more active j ls i v e h l q ask f u g =
     g ∙ ap₂ (taken_in active) e (f ∙ ask_is l active j) ∙ one_more active (seats_at active j (take i ls)) (seat_at active j l)
     ∙ ap (λ (x : Seat). asked_by active (asked (seats_at active j (take i ls) ++ (x ∷ [])))) (ap (seat_at active j) q)
@@ -66,8 +67,9 @@ hear_start active j one first = record { heard_so = refl; ahead = refl; whole = 
 
 module _ {active : Bool} {j : ℕ} {one : Bool} {first now : List Lane} {i : ℕ} {v : Option ℕ} (s : Hearing active j one first now i v) where
   -- One place more hears it, and asks.
-  pub hear_more : i < length now → (l : Lane) → l ≡ get_or now i l → (ask : Ask) → ask ≡ ask_of l active j → (y : Lane) → y ≡ record l { lost = lost_by (j + 1) one ask l.lost }
-      → (next : Ask) → next ≡ ask_of y (not active) (j + 1) → (u : Option ℕ) → u ≡ taken_in (not active) v next → Hearing active j one first (set now i y) (i + 1) u
+  pub hear_more : i < length now → (l : Lane) → l ≡ get_or now i l → (ask : Ask) → ask ≡ ask_of l active j
+      → (y : Lane) → y ≡ record l { lost = lost_by (j + 1) one ask l.lost } → (next : Ask) → next ≡ ask_of y (not active) (j + 1)
+      → (u : Option ℕ) → u ≡ taken_in (not active) v next → Hearing active j one first (set now i y) (i + 1) u
   hear_more h l q ask a y e next f u g =
       let k : i < length first = omega (arith, s.whole) in
       let c : get_or now i l ∷ drop (i + 1) now ≡ get_or first i l ∷ drop (i + 1) first = sym (drop_more now i l h) ∙ s.ahead ∙ drop_more first i l k in
@@ -77,7 +79,8 @@ module _ {active : Bool} {j : ℕ} {one : Bool} {first now : List Lane} {i : ℕ
         heard_so =
             seats h y
             ∙ ap₂ (λ (xs : List Seat) (x : Seat). xs ++ (x ∷ [])) s.heard_so
-            (heard_is l active j one y (e ∙ ap (λ (x : Ask). record l { lost = lost_by (j + 1) one x l.lost }) a) ∙ ap (λ (x : Lane). heard (j + 1) one (seat_at active j x)) same)
+            (heard_is l active j one y (e ∙ ap (λ (x : Ask). record l { lost = lost_by (j + 1) one x l.lost }) a)
+            ∙ ap (λ (x : Lane). heard (j + 1) one (seat_at active j x)) same)
             ∙ sym (map-append (heard (j + 1) one) (seats_at active j (take i first)) (seat_at active j (get_or first i l) ∷ []))
             ∙ ap (map (heard (j + 1) one)) (sym (map_more (seat_at active j) first i l k));
         ahead = drop-set-lt (i + 1) now i y (omega arith) ∙ rest;
@@ -88,7 +91,8 @@ module _ {active : Bool} {j : ℕ} {one : Bool} {first now : List Lane} {i : ℕ
             ∙ ap (λ (xs : List Seat). asked_by (not active) (asked xs)) (sym (seats h y));
       }
     where
-      seats : i < length now → (y : Lane) → seats_at (not active) (j + 1) (take (i + 1) (set now i y)) ≡ seats_at (not active) (j + 1) (take i now) ++ (seat_at (not active) (j + 1) y ∷ [])
+      seats : i < length now → (y : Lane)
+          → seats_at (not active) (j + 1) (take (i + 1) (set now i y)) ≡ seats_at (not active) (j + 1) (take i now) ++ (seat_at (not active) (j + 1) y ∷ [])
       seats h y = ap (seats_at (not active) (j + 1)) (take_more_set now i y h) ∙ map-append (seat_at (not active) (j + 1)) (take i now) (y ∷ [])
 
   -- After the last place all have.
@@ -108,7 +112,8 @@ abbrev pub filled_with : {A B : Type 0} (f : A → B) → List A → List B → 
 filled_with f xs ys i = map f (take i xs) ++ drop i ys
 
 -- one place more
-pub fill_one : {A B : Type 0} (f : A → B) (xs : List A) (ys now : List B) (i : ℕ) → now ≡ filled_with f xs ys i → i < length xs → i < length ys → (x : A) → x ≡ get_or xs i x → (y : B) → y ≡ f x
+pub fill_one : {A B : Type 0} (f : A → B) (xs : List A) (ys now : List B) (i : ℕ) → now ≡ filled_with f xs ys i
+    → i < length xs → i < length ys → (x : A) → x ≡ get_or xs i x → (y : B) → y ≡ f x
     → set now i y ≡ filled_with f xs ys (i + 1)
 fill_one {A} {B} f xs ys now i m h k x q y e =
     let n : length (map f (take i xs)) ≡ i = length-map (take i xs) f ∙ length-take-le i xs (omega arith) in
@@ -121,14 +126,16 @@ fill_one {A} {B} f xs ys now i m h k x q y e =
     ∙ ap (λ (r : List B). r ++ drop (i + 1) ys) (sym (map_more f xs i x h))
 
 -- all of them, over n times the same
-pub fill_all : {A B : Type 0} (f : A → B) (xs : List A) (n : ℕ) (y : B) (now : List B) (i : ℕ) → now ≡ filled_with f xs (replicate n y) i → length xs ≤ i → i ≤ length xs
+pub fill_all : {A B : Type 0} (f : A → B) (xs : List A) (n : ℕ) (y : B) (now : List B) (i : ℕ) → now ≡ filled_with f xs (replicate n y) i
+    → length xs ≤ i → i ≤ length xs
     → now ≡ map f xs ++ replicate (n - length xs) y
 fill_all {A} {B} f xs n y now i m lo hi =
     let e : i ≡ length xs = omega arith in
     m ∙ ap₂ (λ (r : List A) (t : List B). map f r ++ t) (take_all i xs lo) (drop-replicate i n y ∙ ap (λ (k : ℕ). replicate (n - k) y) e)
 
 -- One place more of a list of which g gives what f gives of another.
-pub map_one : {A B C : Type 0} (f : A → C) (g : B → C) (xs : List A) (ys : List B) (i : ℕ) → map g (take i ys) ≡ map f (take i xs) → i < length xs → i < length ys → (d : A) (y : B)
+pub map_one : {A B C : Type 0} (f : A → C) (g : B → C) (xs : List A) (ys : List B) (i : ℕ) → map g (take i ys) ≡ map f (take i xs)
+    → i < length xs → i < length ys → (d : A) (y : B)
     → g y ≡ f (get_or xs i d) → map g (take (i + 1) (set ys i y)) ≡ map f (take (i + 1) xs)
 map_one {A} {B} {C} f g xs ys i m h k d y e =
     ap (map g) (take_more_set ys i y k) ∙ map-append g (take i ys) (y ∷ [])

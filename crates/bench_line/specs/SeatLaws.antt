@@ -57,7 +57,8 @@ module _ (l : Lane) (active : Bool) (j : ℕ) where
       wants : Ask
       wants = Bit bit_now (bit_width l.clock active bit_now).0
 
-      go : (lost : Option ℕ) (a d : Bool) → leb l.count j ≡ d → cond (is_some lost || a) Out (cond d Ended wants) ≡ ask_for (cond a (out Idle) (seat_in lost (rest_at active j l)))
+      go : (lost : Option ℕ) (a d : Bool) → leb l.count j ≡ d
+          → cond (is_some lost || a) Out (cond d Ended wants) ≡ ask_for (cond a (out Idle) (seat_in lost (rest_at active j l)))
       go (Some k) true d e = refl
       go (Some k) false d e = refl
       go None true d e = refl
@@ -65,7 +66,8 @@ module _ (l : Lane) (active : Bool) (j : ℕ) where
       go None false false e = rw (rest_more (leb-false l.count j e))
 
   -- What becomes of it.
-  pub heard_is : (one : Bool) (y : Lane) → y ≡ record l { lost = lost_by (j + 1) one (ask_of l active j) l.lost } → seat_at (not active) (j + 1) y ≡ heard (j + 1) one (seat_at active j l)
+  pub heard_is : (one : Bool) (y : Lane) → y ≡ record l { lost = lost_by (j + 1) one (ask_of l active j) l.lost }
+      → seat_at (not active) (j + 1) y ≡ heard (j + 1) one (seat_at active j l)
   unfolding seat_at rest_at
   heard_is one y e = rw (e, add-one j, ask_is) (go l.lost (eqb l.count 0) (leb l.count j) refl)
     where

@@ -7,6 +7,8 @@ use Rattle.bench_line.proofs.contend_on.Goals as goal
 pub returns : goal.returns
 returns c =
     let all : length c.args.at ≡ most_stations = search rules in
-    let n : length (take c.places-places.result c.args.at) ≡ c.places-places.result = length-take-le c.places-places.result c.args.at (omega (arith, c.places-places.ensures.few)) in
+    let n : length (take c.places-places.result c.args.at) ≡ c.places-places.result =
+    length-take-le c.places-places.result c.args.at (omega (arith, c.places-places.ensures.few)) in
     let m : length c.send_bits-bits.new.lanes ≡ c.places-places.result = search (rules, length-take-le) in
-    contended c.args.at all c.places-places.result c.places-places.ensures _ (rw n at c.lanes-lanes.ensures) _ _ _ _ c.send_bits-bits.ensures _ (rw m at c.verdicts.ensures)
+    contended c.args.at all _ c.places-places.ensures _ (rw n at c.lanes-lanes.ensures) _ _ _ _ c.send_bits-bits.ensures _
+    (rw m at c.verdicts.ensures)

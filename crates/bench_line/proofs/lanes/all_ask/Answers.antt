@@ -10,4 +10,5 @@ loop-lane-init c = refl
 
 pub loop-lane-preserved : goal.loop-lane-preserved
 loop-lane-preserved c =
-    ask_more _ _ _ c.loop-lane.lane-index _ c.loop-lane.invariant c.loop-lane-test.true _ c.lane-item.is _ c.asks.ensures _ c.taken_in-asked.ensures
+    ask_more _ _ _ c.loop-lane.lane-index _ c.loop-lane.invariant c.loop-lane-test.true
+    _ c.lane-item.is _ c.asks.ensures _ c.taken_in-asked.ensures

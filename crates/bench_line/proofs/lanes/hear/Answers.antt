@@ -8,7 +8,8 @@ loop-lane-init c = hear_start _ _ _ _
 
 pub loop-lane-preserved : goal.loop-lane-preserved
 loop-lane-preserved c =
-    hear_more c.loop-lane.invariant (search rules) _ (search rules) _ c.asks-ask.ensures _ c.hear.ensures _ c.asks-next.ensures _ c.taken_in-asked.ensures
+    hear_more c.loop-lane.invariant (search rules) _ (search rules) _ c.asks-ask.ensures _ c.hear.ensures
+    _ c.asks-next.ensures _ c.taken_in-asked.ensures
 
 pub returns-clause-hears : goal.returns-clause-hears
 returns-clause-hears c = hear_all c.loop-lane.invariant (search rules)

@@ -7,8 +7,10 @@ pub returns-in_default : goal.returns-in_default
 returns-in_default c = sending_over c.loop-j.invariant.0 (search rules)
 
 pub loop-j-preserved : goal.loop-j-preserved
-loop-j-preserved c =
-    (sending_more c.loop-j.invariant.0 c.loop-j-test.true _ (search rules) _ (rw (← c.on_line.ensures) c.hear-asked.ensures.hears), c.hear-asked.ensures.asks)
+loop-j-preserved c = (
+  sending_more c.loop-j.invariant.0 c.loop-j-test.true _ (search rules) _ (rw (← c.on_line.ensures) c.hear-asked.ensures.hears),
+  c.hear-asked.ensures.asks,
+)
 
 pub returns : goal.returns
 returns c = sending_last c.loop-j.invariant.0 (search rules)
