@@ -102,5 +102,5 @@ pub extern "C" fn j1850_desk(input: &[u8], words: &mut [u32], text: &mut [u8]) -
     ensures words_after { words.new ≡ laid_on (laid_words (answering input.now (length words.old) (length text.old)).number input.now) words.old }
     ensures text_after { text.new ≡ laid_on (laid_text (answering input.now (length words.old) (length text.old)).number input.now) text.old }
 {
-    c_frame_answers::desk_as(desk_report::desk(input, words, text))
+    Desk::from(desk_report::desk(input, words, text))
 }

@@ -9,7 +9,7 @@ ghost use Rattle.frame.specs.WritePromise.{refusal_number, counted, counts};
 ghost use Rattle.desk_text.specs.Promise.{answered_told};
 ghost use Rattle.c_frame_answers.specs.Answers.{traced_as, no_such_kind, counted_as, read_as, desk_as};
 
-use desk_text::Answered;
+use desk_text::{Answered, FewLent};
 use frame::{ReadRefusal, Reading, WriteRefusal};
 use frame_numbers::{
     BAD_CLOCK, BAD_MESSAGE, DONE, FEW_LENT, PAST_RECORDING, QUIET, UNFINISHED, WITHOUT,
@@ -202,24 +202,26 @@ fn bare(number: u32, next: usize, opening: usize) -> Read
 }
 
 // What the desk answers.
-pub fn desk_as(answer: Answered) -> Desk
-    ensures { result ≡ desk_as (answered_told answer) }
-{
-    match answer {
-        Answered::Report { length } => Desk {
-            number: DONE,
-            line: 0,
-            length,
-        },
-        Answered::Refused { line, length } => Desk {
-            number: BAD_INPUT,
-            line,
-            length,
-        },
-        Answered::FewLent => Desk {
-            number: LITTLE_LENT,
-            line: 0,
-            length: 0,
-        },
+impl From<Result<Answered, FewLent>> for Desk {
+    ghost from_gives = { λ answer desk. desk ≡ desk_as (answered_told answer) };
+
+    fn from(answer: Result<Answered, FewLent>) -> Self {
+        match answer {
+            Ok(Answered::Report { length }) => Desk {
+                number: DONE,
+                line: 0,
+                length,
+            },
+            Ok(Answered::Refused { line, length }) => Desk {
+                number: BAD_INPUT,
+                line,
+                length,
+            },
+            Err(FewLent) => Desk {
+                number: LITTLE_LENT,
+                line: 0,
+                length: 0,
+            },
+        }
     }
 }

@@ -1,4 +1,2 @@
 -- Definitions.
 pub mod Texts
--- Machinery.
-pub mod Filling

@@ -6,17 +6,17 @@ mod failure;
 mod help;
 mod reasons;
 
-ghost use Rattle.std.specs.Prelude.{◌≡◌, ◌+◌, ◌≤◌, length};
+ghost use Rattle.std.specs.Prelude.{◌≡◌, ◌+◌, ◌≤◌, length, IfOk};
+ghost use Rattle.io.specs.Counts.{IsPrefixLen};
 ghost use Rattle.desk_text.specs.Enough.{most_input};
 ghost use Rattle.desk_text.specs.Input.{most_widths};
 ghost use Rattle.desk_text.specs.Promise.{most_text};
 ghost use Rattle.desk.specs.Texts.{WholeText};
-ghost use Rattle.desk.specs.Filling.{Within};
 
 use desk_text::{Answered, MOST_TEXT, MOST_WIDTHS};
 use failure::fail;
 use std::env::FillError;
-use std::io::{Error, ErrorKind, Read};
+use std::io::{self, Error, ErrorKind, Read};
 use std::rt::{Env, Files};
 use std::{fs, str};
 
@@ -51,26 +51,18 @@ fn page() -> [u8; MOST_TEXT]
     [0u8; MOST_TEXT]
 }
 
-// How many bytes were read, or why reading failed.
-#[derive(Drop)]
-enum Filled {
-    Bytes(usize),
-    Failed(Error),
-}
-
-// Reads until the buffer is full or the input ends.
-fn fill(reader: &mut impl Read, buf: &mut [u8]) -> Filled
-    ensures { Within result buf.new }
+// Reads until the buffer is full or the input ends, and answers how many bytes were read.
+fn fill(reader: &mut impl Read, buf: &mut [u8]) -> io::Result<usize>
+    ensures { IfOk result (λ n. IsPrefixLen n buf.new) }
 {
     let mut done = 0;
     while done < buf.len() {
-        match reader.read(&mut buf[done..]) {
-            Ok(0) => return Filled::Bytes(done),
-            Ok(n) => done += n,
-            Err(error) => return Filled::Failed(error),
+        match reader.read(&mut buf[done..])? {
+            0 => break,
+            n => done += n,
         }
     }
-    Filled::Bytes(done)
+    Ok(done)
 }
 
 // Writes a text on standard output. Where that fails or stops short it is told, with what the system said.
@@ -80,23 +72,24 @@ fn put_out(rt: &(impl Print + Eprint + Alloc), text: &[u8]) {
     }
 }
 
-// What an input comes to: how many bytes its text has, and its first bad line, or 0.
+// What an input comes to: how many bytes its text has, and its first bad line, if one is bad.
 #[derive(Drop)]
 struct Text {
     length: usize,
-    line: usize,
+    line: Option<usize>,
 }
 
-// The whole text of an input, laid first in the page.
+// The whole text of an input, laid first in the page. Enough is lent, so that the desk does not refuse.
 fn text_in(input: &[u8], words: &mut [u32], page: &mut [u8]) -> Text
     requires { (most_widths ≤ length words.old) × (most_text ≤ length page.old) }
     ensures { WholeText input.now page.new result }
 {
-    let answered = desk_report::desk(input, words, page);
-    match answered {
-        Answered::Report { length } => Text { length, line: 0 },
-        Answered::Refused { line, length } => Text { length, line },
-        Answered::FewLent => Text { length: 0, line: 0 },
+    match desk_report::desk(input, words, page).unwrap() {
+        Answered::Report { length } => Text { length, line: None },
+        Answered::Refused { line, length } => Text {
+            length,
+            line: Some(line),
+        },
     }
 }
 
@@ -106,15 +99,17 @@ fn answer(rt: &(impl Print + Eprint + Alloc), input: &[u8]) {
     let mut page = page();
     let text = text_in(input, &mut words, &mut page);
     put_out(rt, &page[..text.length]);
-    reasons::tell(rt, input, text.line);
+    if let Some(line) = text.line {
+        reasons::tell(rt, input, line);
+    }
 }
 
 // Answers what a reader gives; a failure is told with the name.
 fn serve(rt: &(impl Print + Eprint + Alloc), reader: &mut impl Read, name: &str) {
     let mut buf = space();
     match fill(reader, &mut buf) {
-        Filled::Bytes(n) => answer(rt, &buf[..n]),
-        Filled::Failed(error) => fail(rt, name, error),
+        Ok(n) => answer(rt, &buf[..n]),
+        Err(error) => fail(rt, name, error),
     }
 }
 
@@ -136,19 +131,16 @@ fn serve_file(rt: &(impl Files + Print + Eprint + Alloc), name: &str) {
 fn serve_named(rt: &(impl Files + Input + Print + Eprint + Alloc), name: &[u8]) {
     if desk_field::same(name, b"-") {
         serve_input(rt);
-        return;
-    }
-    if desk_field::same(name, b"--help") {
+    } else if desk_field::same(name, b"--help") {
         help::print(rt);
-        return;
-    }
-    match str::from_utf8(name) {
-        Ok(name) => serve_file(rt, name),
-        Err(_) => fail(
+    } else if let Ok(name) = str::from_utf8(name) {
+        serve_file(rt, name);
+    } else {
+        fail(
             rt,
             "desk: the argument",
             Error::new(ErrorKind::InvalidFilename, "it is not UTF-8"),
-        ),
+        );
     }
 }
 

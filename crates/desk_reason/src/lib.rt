@@ -6,6 +6,7 @@ ghost use Rattle.desk_text.specs.Input.{lines};
 ghost use Rattle.desk_reason.specs.Reasons.{reason_at, reason_of, first_of, ends_in_return, open_reason, closed_reason};
 
 use desk_text::{MOST_WIDTHS, find};
+use std::fmt::{self, Display, Formatter, Write};
 
 // The byte that closes a line, and the byte that some systems put before it.
 const NEWLINE: u8 = 10;
@@ -27,6 +28,20 @@ pub enum Reason {
     TooMany,
     // it is a later line, and not `iv`, width
     NotWidth,
+}
+
+// The reason in words.
+impl Display for Reason {
+    fn fmt<W: Write>(&self, f: &mut Formatter<W>) -> fmt::Result {
+        f.write_str(match self {
+            Reason::Missing => "the input has no such line",
+            Reason::Unclosed => "no newline closes it",
+            Reason::CarriageReturn => "a carriage return stands before its newline",
+            Reason::NotOwn => "it is not own, customer and vehicle, parted by tabs",
+            Reason::TooMany => "16384 lines with a width stand before it",
+            Reason::NotWidth => "it is not iv and a width, parted by a tab",
+        })
+    }
 }
 
 // Why a line of an input is bad, the lines counted from 1, of a line that is bad.

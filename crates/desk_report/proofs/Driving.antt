@@ -1,5 +1,5 @@
 -- The loop over the answers: what is laid so far and the lines of the answers left are the lines of all.
-use Prim.Native.Nat.{ℕ, ◌+◌, ◌-◌, ◌≤◌, ◌<◌}
+use Prim.Native.Nat.{ℕ, suc, ◌+◌, ◌-◌, ◌≤◌, ◌<◌}
 use mathlib.Core.Path.{◌≡◌, refl, sym, ap, ◌∙◌}
 use mathlib.Core.Bool.{Bool, true, false}
 use mathlib.Core.List.{List, ◌++◌, append-nil}
@@ -14,7 +14,7 @@ use Rattle.frame.specs.ReadStated.{goes_on}
 use Rattle.frame.specs.ReadingOn.{next_of, last, more, reads_once}
 use Rattle.frame.proofs.RecordingOn.{progress, ReadsOn, answers_in, reads_on}
 use Rattle.desk_text.specs.Report.{answer_text, answers_text}
-use Rattle.std.specs.Prelude.{Some, None}
+use Rattle.std.specs.Prelude.{Option, Some, None}
 use Rattle.desk_report.specs.declared.lines.Step.{Step}
 use Rattle.desk_report.specs.Laying.{Laid, Space}
 use Rattle.desk_report.specs.Reporting.{answer_at, onwards, text_from, Stepped}
@@ -61,7 +61,17 @@ module _ (customer vehicle ws : List ℕ) where
     pub long : length lent ≡ length entry
     pub laid : sets lent k (text_from customer vehicle ws p) ≡ sets entry at (text_from customer vehicle ws 0)
 
-  pub left_start : {entry : List ℕ} {at : ℕ} → Space at (text_from customer vehicle ws 0) entry → Left entry at entry at 0
+  -- .. where reading goes on at some place, and all of them where it does not
+  abbrev pub LeftOn : List ℕ → ℕ → List ℕ → ℕ → Option ℕ → Type 0
+  LeftOn entry at lent k None = Laid at (text_from customer vehicle ws 0) entry lent k
+  LeftOn entry at lent k (Some p) = Left entry at lent k p
+
+  -- how far reading is from the end
+  abbrev pub ahead : Option ℕ → ℕ
+  ahead None = 0
+  ahead (Some p) = suc (length ws - p)
+
+  pub left_start : {entry : List ℕ} {at : ℕ} → Space at (text_from customer vehicle ws 0) entry → LeftOn entry at entry at (Some 0)
   left_start r = record { inside = omega arith; count = refl; fits = r.fits; long = refl; laid = refl }
 
   module _ {entry lent : List ℕ} {at k p : ℕ} (left : Left entry at lent k p) where
@@ -75,16 +85,17 @@ module _ (customer vehicle ws : List ℕ) where
         go false e = omega (arith, left.count, left.fits, ap length (text_last p left.inside e))
 
     module _ {exit : List ℕ} {step : Step} (s : Stepped customer vehicle ws p k lent exit step) where
-      pub left_end : step.next ≡ None → Laid at (text_from customer vehicle ws 0) entry exit step.end
-      left_end e =
+      -- with no answer after it, all lines are laid
+      text_ends : step.next ≡ None → Laid at (text_from customer vehicle ws 0) entry exit step.end
+      text_ends e =
           let r = text_last p left.inside (ends (answer_at ws p) (sym s.follows ∙ e)) in
           record {
             ends = omega (arith, s.line.ends, left.count, ap length r);
             lays = s.line.lays ∙ ap (sets lent k) (sym r) ∙ left.laid;
           }
 
-      pub left_next : (q : ℕ) → step.next ≡ Some q → Left entry at exit step.end q
-      left_next q e =
+      text_goes : (q : ℕ) → step.next ≡ Some q → Left entry at exit step.end q
+      text_goes q e =
           let g = goes (answer_at ws p) q (sym s.follows ∙ e) in
           let o = progress most_bytes (single ws) p most_bytes g.0 in
           let r : text_from customer vehicle ws p ≡ answer_text customer vehicle (answer_at ws p) ++ text_from customer vehicle ws q = text_more p left.inside g.0 ∙ ap (λ (n : ℕ). answer_text customer vehicle (answer_at ws p) ++ text_from customer vehicle ws n) g.1 in
@@ -103,8 +114,33 @@ module _ (customer vehicle ws : List ℕ) where
           }
 
       -- reading goes on further on
-      pub left_less : (q : ℕ) → step.next ≡ Some q → length ws - q < length ws - p
-      left_less q e =
+      text_less : (q : ℕ) → step.next ≡ Some q → length ws - q < length ws - p
+      text_less q e =
           let g = goes (answer_at ws p) q (sym s.follows ∙ e) in
           let o = progress most_bytes (single ws) p most_bytes g.0 in
           omega (arith, g.1)
+
+      left_next : LeftOn entry at exit step.end step.next
+      left_next = go step.next refl
+        where
+          go : (n : Option ℕ) → step.next ≡ n → LeftOn entry at exit step.end n
+          go None e = text_ends e
+          go (Some q) e = text_goes q e
+
+      left_less : ahead step.next < ahead (Some p)
+      left_less = go step.next refl
+        where
+          go : (n : Option ℕ) → step.next ≡ n → ahead n < ahead (Some p)
+          go None e = omega arith
+          go (Some q) e = omega (arith, text_less q e)
+
+  -- the same, told by whether there is a next answer
+  module _ (entry : List ℕ) (at : ℕ) {lent exit : List ℕ} {k p : ℕ} {n : Option ℕ} {step : Step} (e : n ≡ Some p) (left : LeftOn entry at lent k n) (s : Stepped customer vehicle ws p k lent exit step) where
+    pub lines_next : LeftOn entry at exit step.end step.next
+    lines_next = left_next (rw e at left) s
+
+    pub lines_less : ahead step.next < ahead n
+    lines_less = rw e (left_less (rw e at left) s)
+
+-- what the code of the lines is proved by, but for the way on
+pub ruleset lines_laws = (left_start, left_space)

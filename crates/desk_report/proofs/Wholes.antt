@@ -13,10 +13,13 @@ use Rattle.laws.specs.Tests.{neither}
 use Rattle.frame.specs.Faults.{most_bytes}
 use Rattle.frame.proofs.RecordingOn.{answers_in}
 use Rattle.desk_text.specs.declared.Labels.{Labels}
-use Rattle.desk_text.specs.declared.JudgedInput.{JudgedInput}
-use Rattle.desk_text.specs.declared.JudgedInput.TheVariants.{Good, Bad, FewLentWords}
+use Rattle.std.specs.Prelude.{Result, Ok, Err}
+use Rattle.desk_text.specs.declared.GoodInput.{GoodInput}
+use Rattle.desk_text.specs.declared.InputRefusal.{InputRefusal}
+use Rattle.desk_text.specs.declared.InputRefusal.TheVariants.{Bad, FewLentWords}
 use Rattle.desk_text.specs.declared.Answered.{Answered}
-use Rattle.desk_text.specs.declared.Answered.TheVariants.{Report, Refused, FewLent}
+use Rattle.desk_text.specs.declared.Answered.TheVariants.{Report, Refused}
+use Rattle.desk_text.specs.declared.FewLent.{FewLent}
 use Rattle.desk_text.specs.Input.{Line, lines, first_bad, customer_of, vehicle_of, recording_of, most_widths}
 use Rattle.desk_text.specs.Report.{header, refusal, answers_text, report, desk_of}
 use Rattle.desk_text.specs.Promise.{JudgedTale, judging_by, judging, judged_told, laid_on, laid_words, laid_text, JudgePromise, most_text, lent_short, answering_by, answering, answered_told, DeskPromise}
@@ -57,6 +60,9 @@ module _ {o : List ℕ} (s : List ℕ) (l : Labels) (ws : List ℕ) (h : Space 0
 
 -- ## What judging tells
 
+abbrev good : Labels → ℕ → Result GoodInput InputRefusal
+good l n = Ok (record { labels = l; widths = n })
+
 -- a good input: its labels and its recording, which stands first in the words left
 record Fine (s left : List ℕ) (l : Labels) (n : ℕ) : Type 0 where
   none_bad : first_bad (lines s) ≡ 0
@@ -74,18 +80,18 @@ abbrev number_by : List Line → ℕ
 number_by ls = number_if (eqb (first_bad ls) 0)
 
 module _ (s words : List ℕ) (enough : most_widths ≤ length words) {left : List ℕ} where
-  judged_by_law : {j : JudgedInput} → JudgePromise s words left j → judged_told j ≡ judging_by (number_by (lines s)) (lines s)
+  judged_by_law : {j : Result GoodInput InputRefusal} → JudgePromise s words left j → judged_told j ≡ judging_by (number_by (lines s)) (lines s)
   unfolding judging
   judged_by_law q = q.tells_it ∙ rw (le-ltb (length words) most_widths enough)
 
-  words_by : {j : JudgedInput} → JudgePromise s words left j → left ≡ laid_on (laid_words (number_by (lines s)) s) words
+  words_by : {j : Result GoodInput InputRefusal} → JudgePromise s words left j → left ≡ laid_on (laid_words (number_by (lines s)) s) words
   unfolding judging
   words_by q = q.lends_it ∙ rw (le-ltb (length words) most_widths enough)
 
-  fine : {l : Labels} {n : ℕ} → JudgePromise s words left (Good l n) → Fine s left l n
+  fine : {l : Labels} {n : ℕ} → JudgePromise s words left (good l n) → Fine s left l n
   fine {l} {n} q = go (eqb (first_bad (lines s)) 0) refl (judged_by_law q)
     where
-      go : (b : Bool) → eqb (first_bad (lines s)) 0 ≡ b → judged_told (Good l n) ≡ judging_by (number_if b) (lines s) → Fine s left l n
+      go : (b : Bool) → eqb (first_bad (lines s)) 0 ≡ b → judged_told (good l n) ≡ judging_by (number_if b) (lines s) → Fine s left l n
       go true e t =
           let w : left ≡ laid_on (recording_of (lines s)) words = words_by q ∙ rw e in
           let m : n ≡ length (recording_of (lines s)) = ap (λ (x : JudgedTale). x.widths) t in
@@ -99,18 +105,18 @@ module _ (s words : List ℕ) (enough : most_widths ≤ length words) {left : Li
       go false e t = let z : ◌≡◌ {A = ℕ} 0 62 = ap (λ (x : JudgedTale). x.number) t in absurd (omega arith)
 
   -- a bad input: its first bad line
-  flawed : {n : ℕ} → JudgePromise s words left (Bad n) → (n ≡ first_bad (lines s)) × (¬ (first_bad (lines s) ≡ 0))
+  flawed : {n : ℕ} → JudgePromise s words left (Err (Bad n)) → (n ≡ first_bad (lines s)) × (¬ (first_bad (lines s) ≡ 0))
   flawed {n} q = go (eqb (first_bad (lines s)) 0) refl (judged_by_law q)
     where
-      go : (b : Bool) → eqb (first_bad (lines s)) 0 ≡ b → judged_told (Bad n) ≡ judging_by (number_if b) (lines s) → (n ≡ first_bad (lines s)) × (¬ (first_bad (lines s) ≡ 0))
+      go : (b : Bool) → eqb (first_bad (lines s)) 0 ≡ b → judged_told (Err (Bad n)) ≡ judging_by (number_if b) (lines s) → (n ≡ first_bad (lines s)) × (¬ (first_bad (lines s) ≡ 0))
       go true e t = let z : ◌≡◌ {A = ℕ} 62 0 = ap (λ (x : JudgedTale). x.number) t in absurd (omega arith)
       go false e t = (ap (λ (x : JudgedTale). x.line) t, eqb-false (first_bad (lines s)) 0 e)
 
   -- with enough words lent, judging is not turned away
-  pub not_few : {A : Type 0} {j : JudgedInput} → j ≡ FewLentWords → JudgePromise s words left j → A
+  pub not_few : {A : Type 0} {j : Result GoodInput InputRefusal} → j ≡ Err FewLentWords → JudgePromise s words left j → A
   not_few e q = absurd (go (eqb (first_bad (lines s)) 0) (judged_by_law (rw e at q)))
     where
-      go : (b : Bool) → judged_told FewLentWords ≡ judging_by (number_if b) (lines s) → ⊥
+      go : (b : Bool) → judged_told (Err FewLentWords) ≡ judging_by (number_if b) (lines s) → ⊥
       go true t = let z : ◌≡◌ {A = ℕ} 61 0 = ap (λ (x : JudgedTale). x.number) t in omega arith
       go false t = let z : ◌≡◌ {A = ℕ} 61 62 = ap (λ (x : JudgedTale). x.number) t in omega arith
 
@@ -121,7 +127,7 @@ module _ (s words : List ℕ) (enough : most_widths ≤ length words) {left : Li
     lent_enough : (lent_short (length words) (length entry)).says ≡ false
     lent_enough = rw (le-ltb (length words) most_widths enough, le-ltb (length entry) most_text h)
 
-    promised : {r : Answered} → answered_told r ≡ answering_by (number_by (lines s)) s → DeskPromise s words left entry exit r
+    promised : {r : Result Answered FewLent} → answered_told r ≡ answering_by (number_by (lines s)) s → DeskPromise s words left entry exit r
     unfolding answering
     promised t = record {
       tells_it = rw lent_enough t;
@@ -136,8 +142,8 @@ module _ (s words : List ℕ) (enough : most_widths ≤ length words) {left : Li
     size : k ≡ length (desk_of s)
     size = omega (arith, x.ends)
 
-  module _ {j : JudgedInput} {l : Labels} {n : ℕ} (e : j ≡ Good l n) (judged : JudgePromise s words left j) where
-    q : JudgePromise s words left (Good l n)
+  module _ {j : Result GoodInput InputRefusal} {l : Labels} {n : ℕ} (e : j ≡ good l n) (judged : JudgePromise s words left j) where
+    q : JudgePromise s words left (good l n)
     q = rw e at judged
 
     f : Fine s left l n
@@ -159,13 +165,13 @@ module _ (s words : List ℕ) (enough : most_widths ≤ length words) {left : Li
     report_space h = record { fits = rw text (omega (arith, desk_size s)) }
 
     pub desk_reports : {entry exit : List ℕ} {k : ℕ} → most_text ≤ length entry
-        → Laid 0 (report (customer_in s l) (vehicle_in s l) (take n left)) entry exit k → DeskPromise s words left entry exit (Report k)
+        → Laid 0 (report (customer_in s l) (vehicle_in s l) (take n left)) entry exit k → DeskPromise s words left entry exit (Ok (Report k))
     desk_reports h x =
         let y = rw text at x in
         promised h y (words_by q) (rw (f.none_bad, size h y (words_by q)))
 
-  module _ {j : JudgedInput} {n : ℕ} (e : j ≡ Bad n) (judged : JudgePromise s words left j) where
-    b : JudgePromise s words left (Bad n)
+  module _ {j : Result GoodInput InputRefusal} {n : ℕ} (e : j ≡ Err (Bad n)) (judged : JudgePromise s words left j) where
+    b : JudgePromise s words left (Err (Bad n))
     b = rw e at judged
 
     refused_text : refusal n ≡ desk_of s
@@ -174,7 +180,7 @@ module _ (s words : List ℕ) (enough : most_widths ≤ length words) {left : Li
     pub refusal_space : {lent : List ℕ} → most_text ≤ length lent → Space 0 (refusal n) lent
     refusal_space h = record { fits = omega (arith, ap length refused_text, desk_size s) }
 
-    pub desk_refuses : {entry exit : List ℕ} {k : ℕ} → most_text ≤ length entry → Laid 0 (refusal n) entry exit k → DeskPromise s words left entry exit (Refused n k)
+    pub desk_refuses : {entry exit : List ℕ} {k : ℕ} → most_text ≤ length entry → Laid 0 (refusal n) entry exit k → DeskPromise s words left entry exit (Ok (Refused n k))
     desk_refuses h x =
         let y = rw refused_text at x in
         promised h y (words_by b) (rw (ne_eqb (first_bad (lines s)) 0 (flawed b).1, (flawed b).0, size h y (words_by b)))
@@ -182,7 +188,7 @@ module _ (s words : List ℕ) (enough : most_widths ≤ length words) {left : Li
 -- ## Too little lent
 
 module _ (s words entry : List ℕ) {b : Bool} (e : b ≡ (lent_short (length words) (length entry)).says) where
-  pub few_lent : b ≡ true → DeskPromise s words words entry entry FewLent
+  pub few_lent : b ≡ true → DeskPromise s words words entry entry (Err (record {}))
   unfolding answering
   few_lent t = let d = sym e ∙ t in record { tells_it = rw d; words_it = rw d; lends_it = rw d }
 

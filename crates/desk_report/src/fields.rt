@@ -49,13 +49,10 @@ fn put_hex(s: &[u8], lent: &mut [u8], at: usize) -> usize
     ensures { Laid at (hex s.now) lent.old lent.new result }
 {
     let mut k = at;
-    let mut i = 0;
-    while i < s.len() {
-        let b = s[i];
+    for &b in s {
         lent[k] = desk_answer::high(b);
         lent[k + 1] = desk_answer::low(b);
         k += 2;
-        i += 1;
     }
     k
 }

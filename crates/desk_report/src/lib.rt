@@ -12,9 +12,9 @@ ghost use Rattle.desk_report.specs.Laying.{Laid, Space};
 ghost use Rattle.desk_report.specs.Reporting.{customer_in, vehicle_in, Within};
 ghost use Rattle.desk_text.specs.Promise.{DeskPromise};
 
-use desk_text::{Answered, JudgedInput, Labels};
+use desk_text::{Answered, FewLent, GoodInput, InputRefusal, Labels};
 use fields::{put, put_number};
-use lines::put_lines;
+use lines::{Recording, put_lines};
 
 // Where the customer's label begins in a good input: after `own` and a tab.
 const CUSTOMER: usize = 4;
@@ -28,7 +28,12 @@ fn put_report(input: &[u8], labels: Labels, widths: &[u32], lent: &mut [u8]) -> 
     let c = CUSTOMER + labels.customer;
     let v = c + 1 + labels.vehicle;
     let k = put(b"customer\tvehicle\tat\tkind\tmain\tresponse\n", lent, 0);
-    put_lines(&input[CUSTOMER..c], &input[c + 1..v], widths, lent, k)
+    let recording = Recording {
+        customer: &input[CUSTOMER..c],
+        vehicle: &input[c + 1..v],
+        widths,
+    };
+    put_lines(&recording, lent, k)
 }
 
 // The refusal of an input at a line.
@@ -42,22 +47,21 @@ fn put_refusal(line: usize, lent: &mut [u8]) -> usize
 }
 
 // The whole text for an input: it stands first in the lent bytes, and a good input's widths stand first in the lent words.
-pub fn desk(input: &[u8], words: &mut [u32], lent: &mut [u8]) -> Answered
+pub fn desk(input: &[u8], words: &mut [u32], lent: &mut [u8]) -> Result<Answered, FewLent>
     ensures { DeskPromise input.now words.old words.new lent.old lent.new result }
 {
     if desk_answer::too_little(words.len(), lent.len()) {
-        return Answered::FewLent;
+        return Err(FewLent);
     }
-    let judged = desk_judge::judge(input, words);
-    match judged {
-        JudgedInput::Good { labels, widths } => {
+    match desk_judge::judge(input, words) {
+        Ok(GoodInput { labels, widths }) => {
             let length = put_report(input, labels, &words[..widths], lent);
-            Answered::Report { length }
+            Ok(Answered::Report { length })
         }
-        JudgedInput::Bad { line } => {
+        Err(InputRefusal::Bad { line }) => {
             let length = put_refusal(line, lent);
-            Answered::Refused { line, length }
+            Ok(Answered::Refused { line, length })
         }
-        JudgedInput::FewLentWords => Answered::FewLent,
+        Err(InputRefusal::FewLentWords) => Err(FewLent),
     }
 }

@@ -41,21 +41,28 @@ fn place(answer: Result<Reading, ReadRefusal>) -> usize
     }
 }
 
+// What a report is of: the labels and the widths of a recording.
+#[derive(Clone, Copy)]
+pub(crate) struct Recording<'a> {
+    pub customer: &'a [u8],
+    pub vehicle: &'a [u8],
+    pub widths: &'a [u32],
+}
+
 // The line of an answer; a frame's bytes stand first in s.
 fn put_line(
-    customer: &[u8],
-    vehicle: &[u8],
+    recording: &Recording,
     answer: Result<Reading, ReadRefusal>,
     s: &[u8],
     lent: &mut [u8],
     at: usize,
 ) -> usize
     requires holds { Holds answer s.now }
-    requires space { Space at (line_in customer.now vehicle.now answer s.now) lent.old }
-    ensures { Laid at (line_in customer.now vehicle.now answer s.now) lent.old lent.new result }
+    requires space { Space at (line_in recording.now.customer.now recording.now.vehicle.now answer s.now) lent.old }
+    ensures { Laid at (line_in recording.now.customer.now recording.now.vehicle.now answer s.now) lent.old lent.new result }
 {
-    let k1 = put_field(customer, lent, at);
-    let k2 = put_field(vehicle, lent, k1);
+    let k1 = put_field(recording.customer, lent, at);
+    let k2 = put_field(recording.vehicle, lent, k1);
     let k3 = put_place(place(answer), lent, k2);
     put_end(answer, s, lent, k3)
 }
@@ -68,44 +75,30 @@ pub(crate) struct Step {
 }
 
 // The line of the answer at a position.
-fn put_answer(
-    customer: &[u8],
-    vehicle: &[u8],
-    widths: &[u32],
-    from: usize,
-    lent: &mut [u8],
-    at: usize,
-) -> Step
-    requires from_in_bounds { from ≤ length widths.now }
-    requires space { Space at (answer_text customer.now vehicle.now (answer_at widths.now from)) lent.old }
-    ensures { Stepped customer.now vehicle.now widths.now from at lent.old lent.new result }
+fn put_answer(recording: &Recording, from: usize, lent: &mut [u8], at: usize) -> Step
+    requires from_in_bounds { from ≤ length recording.now.widths.now }
+    requires space { Space at (answer_text recording.now.customer.now recording.now.vehicle.now (answer_at recording.now.widths.now from)) lent.old }
+    ensures { Stepped recording.now.customer.now recording.now.vehicle.now recording.now.widths.now from at lent.old lent.new result }
 {
     let mut s = [0u8; MOST_BYTES];
-    let answer = frame_read::read(widths, Place(from), &mut s);
-    let end = put_line(customer, vehicle, answer, &s, lent, at);
+    let answer = frame_read::read(recording.widths, Place(from), &mut s);
+    let end = put_line(recording, answer, &s, lent, at);
     let next = desk_answer::after(answer);
     Step { end, next }
 }
 
 // A line for each answer from the recording's start on, until quiet or unfinished.
-pub(crate) fn put_lines(
-    customer: &[u8],
-    vehicle: &[u8],
-    widths: &[u32],
-    lent: &mut [u8],
-    at: usize,
-) -> usize
-    requires { Space at (text_from customer.now vehicle.now widths.now 0) lent.old }
-    ensures { Laid at (text_from customer.now vehicle.now widths.now 0) lent.old lent.new result }
+#[tactic(auto, using(crate::proofs::Driving::lines_laws))]
+pub(crate) fn put_lines(recording: &Recording, lent: &mut [u8], at: usize) -> usize
+    requires { Space at (text_from recording.now.customer.now recording.now.vehicle.now recording.now.widths.now 0) lent.old }
+    ensures { Laid at (text_from recording.now.customer.now recording.now.vehicle.now recording.now.widths.now 0) lent.old lent.new result }
 {
     let mut k = at;
-    let mut p = 0;
-    loop {
-        let step = put_answer(customer, vehicle, widths, p, lent, k);
+    let mut next = Some(0);
+    while let Some(from) = next {
+        let step = put_answer(recording, from, lent, k);
         k = step.end;
-        let Some(q) = step.next else {
-            return k;
-        };
-        p = q;
+        next = step.next;
     }
+    k
 }

@@ -3,17 +3,17 @@ use Rattle.desk_report.proofs.Laying.{hexing_start, hexing_on, hexing_end, hexin
 use borrow.Author.Rules.{rules}
 use Rattle.desk_report.proofs.fields.put_hex.Goals as goal
 
-pub loop-i-init : goal.loop-i-init
-loop-i-init c = search (rules, hexing_start)
+pub loop-b-init : goal.loop-b-init
+loop-b-init c = search (rules, hexing_start)
 
 pub bounds-lent-k : goal.bounds-lent-k
 bounds-lent-k c = search (rules, hexing_space)
 
-pub bounds-lent-k-in-loop-i : goal.bounds-lent-k-in-loop-i
-bounds-lent-k-in-loop-i c = search (rules, hexing_second)
+pub bounds-lent-k-in-loop-b : goal.bounds-lent-k-in-loop-b
+bounds-lent-k-in-loop-b c = search (rules, hexing_second)
 
-pub loop-i-preserved : goal.loop-i-preserved
-loop-i-preserved c = search (rules, hexing_on)
+pub loop-b-preserved : goal.loop-b-preserved
+loop-b-preserved c = search (rules, hexing_on)
 
 pub returns : goal.returns
 returns c = search (rules, hexing_end)

@@ -9,11 +9,11 @@ put_line-end-requires c =
     let h = c.requires in
     let q = c.read-answer.ensures in
     record {
-      holds = (read_prints a.customer.now a.vehicle.now a.widths.now a.from h.from_in_bounds refl q).holds;
-      space = answer_space a.customer.now a.vehicle.now a.widths.now a.from h.from_in_bounds refl q h.space;
+      holds = (read_prints a.recording.now.customer.now a.recording.now.vehicle.now a.recording.now.widths.now a.from h.from_in_bounds refl q).holds;
+      space = answer_space a.recording.now.customer.now a.recording.now.vehicle.now a.recording.now.widths.now a.from h.from_in_bounds refl q h.space;
     }
 
 pub returns : goal.returns
 returns c =
     let a = c.args in
-    answer_stepped a.customer.now a.vehicle.now a.widths.now a.from c.requires.from_in_bounds refl c.read-answer.ensures c.put_line-end.ensures c.after-next.ensures
+    answer_stepped a.recording.now.customer.now a.recording.now.vehicle.now a.recording.now.widths.now a.from c.requires.from_in_bounds refl c.read-answer.ensures c.put_line-end.ensures c.after-next.ensures

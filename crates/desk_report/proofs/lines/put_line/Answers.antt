@@ -16,7 +16,7 @@ pub put_end-requires : goal.put_end-requires
 put_end-requires c =
     let a = c.args in
     let h = c.requires in
-    record { holds = h.holds; space = line_4 a.customer.now a.vehicle.now a.answer a.s.now h.space c.put_field-k1.ensures c.put_field-k2.ensures c.place.ensures c.put_place-k3.ensures }
+    record { holds = h.holds; space = line_4 a.recording.now.customer.now a.recording.now.vehicle.now a.answer a.s.now h.space c.put_field-k1.ensures c.put_field-k2.ensures c.place.ensures c.put_place-k3.ensures }
 
 pub returns : goal.returns
 returns c = search (rules, line_laid)

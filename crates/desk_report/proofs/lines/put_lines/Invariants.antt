@@ -1,10 +1,8 @@
-use Rattle.desk_report.proofs.Driving.{Left}
-use Prim.Native.Nat.{◌-◌}
-use lib.ListN.{length}
+use Rattle.desk_report.proofs.Driving.{LeftOn, ahead}
 use Rattle.desk_report.proofs.lines.put_lines.Given as goal
 
-abbrev pub invariant-loop-q : goal.invariant-loop-q
-invariant-loop-q l = Left l.customer l.vehicle l.widths l.initial.lent l.at l.lent l.k l.p
+abbrev pub invariant-loop-next : goal.invariant-loop-next
+invariant-loop-next l = LeftOn l.recording.customer.now l.recording.vehicle.now l.recording.widths.now l.initial.lent l.at l.lent l.k l.next
 
-abbrev pub decreases-loop-q : goal.decreases-loop-q
-decreases-loop-q l = length l.widths - l.p
+abbrev pub decreases-loop-next : goal.decreases-loop-next
+decreases-loop-next l = ahead l.recording.customer.now l.recording.vehicle.now l.recording.widths.now l.next
