@@ -13,6 +13,16 @@ TOKEN = re.compile(rf'"(?:[^"\\]|\\.)*"|{WORD}|[(){{}}.;,@«»]|\s+')
 FACTS = {"≡", "≢", "≤", "<", "≥", ">", "↔", "¬", "⊥", "∈"}
 RUST_TYPE = re.compile(r"^(?:pub )?(?:struct|enum) (\w+)")
 RUST_CALL = re.compile(r'^pub (?:extern "C" )?fn (\w+)')
+CONVERSION = re.compile(r"^impl From<(.+)> for (\w+) \{$")
+GIVES = re.compile(r"ghost from_gives = \{ λ (\S+) (\S+)\. (.*?) \};", re.S)
+
+
+def conversion(lines):
+    """A conversion, as the call that it is, S::from of a type: its name, and its head with what it gives as a clause of `result`."""
+    source, struct = CONVERSION.match(lines[0]).groups()
+    given, made, body = GIVES.search("\n".join(lines)).groups()
+    said = re.sub(rf"(?<![\w.]){re.escape(made)}(?!\w)", "result", " ".join(body.split()))
+    return f"{struct}::from({source})", f"pub fn {struct}::from({given}: {source}) -> {struct}\n    ensures {{ {said} }}\n"
 
 
 def indent(line):
@@ -160,6 +170,18 @@ class Source(Spec):
                 i += 1
                 continue
             typed, call = RUST_TYPE.match(line), RUST_CALL.match(line)
+            if CONVERSION.match(line):
+                e = i + 1
+                while not self.lines[e - 1].startswith("}"):
+                    e += 1
+                name, text = conversion([bare(x, "//") for x in self.lines[i:e]])
+                for inner in self.lines[i:e]:
+                    if inner.startswith("    ghost use "):
+                        self.use(inner.strip().removeprefix("ghost use "))
+                it = self.calls[name] = Named(self, name, i, text)
+                it.is_type, it.spans = False, [(i if above is None else above, e)]
+                i, above = e, None
+                continue
             use = re.match(r"^(ghost |pub )?use ([^;]+);", "\n".join(bare(x, "//") for x in self.lines[i : ending(self.lines, i, len(self.lines), 0) + 1]))
             if use and use.group(1) == "ghost ":
                 self.use(" ".join(use.group(2).split()))

@@ -102,7 +102,7 @@ class Tree:
         return out
 
     def open_calls(self, crate):
-        """The public functions of a library's lib.rt and those that it passes on; and whatever is exported to C."""
+        """The public functions of a library's lib.rt and those that it passes on; whatever is exported to C; and each conversion."""
         files = self.sources(crate)
         lib = self.file(f"{crate}/src/lib.rt")
         if lib is None:
@@ -110,7 +110,7 @@ class Tree:
         out = list(lib.calls.values())
         for name, path in lib.passed.items():
             out += [f.calls[name] for f in files if name in f.calls and f is not lib and pathlib.Path(f.path).stem in path.split("::")]
-        return out + [c for f in files if f is not lib for c in f.calls.values() if 'extern "C"' in c.statement]
+        return out + [c for f in files if f is not lib for c in f.calls.values() if 'extern "C"' in c.statement or "::from(" in c.name]
 
     def contract(self, call):
         """What a call's contract speaks of, and the types of its arguments and answer."""
