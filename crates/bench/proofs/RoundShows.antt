@@ -9,16 +9,15 @@ use Rattle.bench.specs.declared.Station.{Station}
 use Rattle.bench.specs.declared.Fared.{Fared}
 use Rattle.bench.specs.declared.Fared.TheVariants.{Idle, Through, Lost}
 use Rattle.bench.specs.declared.Verdict.{Verdict}
-use Rattle.bench.specs.declared.RoundAnswer.{RoundAnswer}
 use Rattle.bench.specs.Stations.{blank}
 use Rattle.bench.specs.Round.{round_of, verdict_of, after_fare, after_fares}
 use Rattle.bench.specs.Calls.{round, number_of, taken, done, after}
-use Rattle.bench.specs.Promise.{told_number, RoundSaid, said, played, round_says, RoundPromise}
+use Rattle.bench.specs.Promise.{RoundTold, told_number, RoundSaid, said, played, round_says, RoundPromise}
 use Rattle.bench.specs.RoundStated.{station_at, fare_at, told_fare, RoundShown}
 use Rattle.bench.proofs.Winner.{wins, loses, verdict_at_law, verdicts_32}
 use Rattle.bench.proofs.LineTime.{on_the_line, words_first}
 use Rattle.bench.specs.RowShows.{same_length}
-use Rattle.bench.specs.RoundExactlyWhen.{says_number}
+use Rattle.bench.specs.RoundExactlyWhen.{says_number, said_number}
 
 none_fares : (f : Fared) → blank ≡ after_fare f blank
 none_fares Idle = refl
@@ -34,8 +33,8 @@ fares_at_law (f ∷ fs) (s ∷ row) zero = refl
 fares_at_law (f ∷ fs) (s ∷ row) (suc i) = fares_at_law fs row i
 
 -- THE ROUND, AS IT IS SEEN.
-pub round_shows : {entry exit : List Station} {lent lent_exit : List ℕ} {a : RoundAnswer} → RoundPromise entry exit lent lent_exit a
-    → told_number a.told ≡ 0 → RoundShown entry exit lent_exit a
+pub round_shows : {entry exit : List Station} {lent lent_exit : List ℕ} {a : RoundTold} → RoundPromise entry exit lent lent_exit a
+    → told_number a ≡ 0 → RoundShown entry exit lent_exit a
 unfolding round_says after done
 round_shows {entry} {exit} {lent} {lent_exit} {a} p z =
     let l = on_the_line lent entry t in
@@ -60,7 +59,7 @@ round_shows {entry} {exit} {lent} {lent_exit} {a} p z =
   where
     t : taken (round lent) entry ≡ true
     t =
-        unfold taken in eq-eqb (number_of (round lent) entry) 0 (sym (says_number entry lent) ∙ sym (ap (λ (r : RoundSaid). r.number) p.says_it) ∙ z)
+        unfold taken in eq-eqb (number_of (round lent) entry) 0 (sym (says_number entry lent) ∙ sym (ap (λ (r : RoundSaid). r.number) p.says_it) ∙ said_number a ∙ z)
 
     row : exit ≡ after_fares (round_of entry).fares entry
     row = p.leaves_it ∙ rw t
@@ -71,11 +70,11 @@ round_shows {entry} {exit} {lent} {lent_exit} {a} p z =
     fare : (i : ℕ) → told_fare a i ≡ fare_at entry i
     fare i = ap (λ (r : RoundSaid). (get_or r.verdicts i (verdict_of Idle)).fared) says ∙ ap (λ (v : Verdict). v.fared) (verdict_at_law entry i)
 
-    count : a.words ≡ length (round_of entry).words
+    count : (said a).words ≡ length (round_of entry).words
     count = ap (λ (r : RoundSaid). r.words) says
 
-    time : a.line_time.0 ≡ (round_of entry).line_time
+    time : (said a).line_time ≡ (round_of entry).line_time
     time = ap (λ (r : RoundSaid). r.line_time) says
 
-    written : take a.words lent_exit ≡ (round_of entry).words
+    written : take (said a).words lent_exit ≡ (round_of entry).words
     written = rw (count, p.lends_it) (words_first lent entry t)

@@ -1,13 +1,12 @@
 -- Laws.
 -- Demand 3 with no count left to suppose: load a message, then only run rounds with 101 words lent, and it goes out in round
 -- A + 1.
-use Rattle.std.specs.Prelude.{ℕ, zero, suc, ◌+◌, ◌≤◌, ◌≡◌, refl, ◌≢◌, Bool, true, false, cond, ◌&&◌, List, [], ◌∷◌, eqb, length, get_or}
+use Rattle.std.specs.Prelude.{ℕ, zero, suc, ◌+◌, ◌≤◌, ◌≡◌, refl, ◌≢◌, Bool, true, false, cond, ◌&&◌, List, [], ◌∷◌, eqb, length, get_or, Ok}
 use Rattle.std.proofs.Common.{sym, subst, ◌∙◌, ⊎_elim, arith}
 use Rattle.laws.specs.Tests.{never}
 use Rattle.checkbyte.specs.Register.{Bytes}
 use Rattle.frame.specs.Writing.{most_words}
 use Rattle.bench.specs.declared.Station.{Station}
-use Rattle.bench.specs.declared.Called.{Called}
 use Rattle.bench.specs.Stations.{Bits, empty}
 use Rattle.bench.specs.Order.{same_bits}
 use Rattle.bench.specs.Calls.{Call, load, round, all_empty, taken, after}
@@ -91,13 +90,13 @@ all_played s (then {e = withdraws i a} k h) o p n = absurd o.0
 all_played s (then {e = sets_clock i c a} k h) o p n = absurd o.0
 all_played s (then {entry} {middle} {e = plays lent lent_exit a} {events} k h) o p n =
     let t = round_is_taken lent entry p o.0 s (waited_all s (then {e = plays lent lent_exit a} k h) o n) in
-    let played : eqb (told_number a.told) 0 ≡ true = accepted_taken (plays lent lent_exit a) entry middle k ∙ t in
+    let played : eqb (told_number a) 0 ≡ true = accepted_taken (plays lent lent_exit a) entry middle k ∙ t in
     let on : RowPassed middle = subst RowPassed (sym k.leaves_it) (passes_on (round lent) entry p) in
     rw played (omega (arith, all_played s h o.1 on n))
 
 -- RUN ROUNDS AND IT GOES OUT. A message is loaded; then A + 1 rounds are called for, each with 101 words lent, and nothing else.
 -- It goes out, whole and readable, in exactly round A + 1.
-pub runs_out : (s : ℕ) (x : List ℕ) (start : List Station) → Bytes x → {row : List Station} → LoadPromise s x start row Called.Done
+pub runs_out : (s : ℕ) (x : List ℕ) (start : List Station) → Bytes x → {row : List Station} → LoadPromise s x start row (Ok tt)
     → {events : List CallMade} {exit : List Station} → Happens row events exit → OnlyRounds events → length events ≡ ahead_in start x + 1
     → (g : GoesOutInTime s x start row events) × (rounds_seen g.out.before + 1 ≡ ahead_in start x + 1)
 runs_out s x start b {row} loaded {events} {exit} h o l = go (outcome s x start b loaded h)

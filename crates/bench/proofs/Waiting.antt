@@ -7,12 +7,10 @@ use Rattle.std.proofs.lemmas.Bool.{eqb-false}
 use Rattle.laws.specs.Tests.{never}
 use Rattle.symbol.specs.declared.Clock.{Clock}
 use Rattle.bench.specs.declared.Station.{Station}
-use Rattle.bench.specs.declared.Called.{Called}
-use Rattle.bench.specs.declared.RoundAnswer.{RoundAnswer}
 use Rattle.bench.specs.Stations.{Bits, bits_sent, blank}
 use Rattle.bench.proofs.OrderLaws.{ahead_differs, different_same}
 use Rattle.bench.specs.Calls.{load, withdraw, set_clock, round, taken, after}
-use Rattle.bench.specs.Promise.{called_number, told_number, LoadPromise, WithdrawPromise, ClockPromise, RoundPromise}
+use Rattle.bench.specs.Promise.{RoundTold, Called, called_number, told_number, LoadPromise, WithdrawPromise, ClockPromise, RoundPromise}
 use Rattle.bench.specs.Histories.{waiting, CallMade, loads, withdraws, sets_clock, plays, call_of, Keeps, Happens, nothing, then, round_seen, rounds_seen, load_seen, loads_seen, traffic_seen}
 use Rattle.bench.specs.HistoryLaws.{accepted_taken, row_after}
 use Rattle.bench.proofs.First.{first_among}
@@ -29,7 +27,7 @@ use Rattle.bench.specs.WaitStated.{WaitsAt, ahead_now, GoesOut}
 -- While m waits at s, a call is the round in which it goes out, when nothing is ahead of it; or its withdrawal; or it leaves m
 -- where it is, and then what is ahead of m is no more than before, less one for a round, more one for a loading ahead of m.
 pub data Step (s : ℕ) (m : Bits) (e : CallMade) (row next : List Station) : Type 0 where
-  goes : (lent lent_exit : List ℕ) (a : RoundAnswer) → e ≡ plays lent lent_exit a → taken (round lent) row ≡ true → winner_of row ≡ m
+  goes : (lent lent_exit : List ℕ) (a : RoundTold) → e ≡ plays lent lent_exit a → taken (round lent) row ≡ true → winner_of row ≡ m
       → ahead_now m row ≡ 0 → Step s m e row next
   back : (a : Called) → e ≡ withdraws s a → called_number a ≡ 0 → Step s m e row next
   stays : WaitsAt s m next → round_seen e + ahead_now m next ≤ ahead_now m row + load_seen m e
@@ -94,10 +92,10 @@ module _ (s : ℕ) (m : Bits) (some : m ≢ []) (row next : List Station) (h : W
           stays (rw w h) (rw w (omega arith)) (λ d. rw w (omega arith))
       go false t = let w = same (sets_clock i c a) k t in stays (rw w h) (rw w (omega arith)) (λ d. rw w (omega arith))
 
-  step_round : (lent lent_exit : List ℕ) (a : RoundAnswer) → RoundPromise row next lent lent_exit a → Step s m (plays lent lent_exit a) row next
+  step_round : (lent lent_exit : List ℕ) (a : RoundTold) → RoundPromise row next lent lent_exit a → Step s m (plays lent lent_exit a) row next
   step_round lent lent_exit a k = go (taken (round lent) row) refl
     where
-      said : eqb (told_number a.told) 0 ≡ taken (round lent) row
+      said : eqb (told_number a) 0 ≡ taken (round lent) row
       said = accepted_taken (plays lent lent_exit a) row next k
 
       played : taken (round lent) row ≡ true → Turn m (waiting row) → Step s m (plays lent lent_exit a) row next

@@ -2,7 +2,7 @@
 -- Demand 3: waiting ends. A message that is loaded and not withdrawn goes out, whole and readable, no later than round
 -- 1 + A + L from its loading; with no loading or withdrawal in exactly round A + 1. Whatever rows, words and answers keep the
 -- promises, it is so, and is seen by the answers alone.
-use Rattle.std.specs.Prelude.{ℕ, ◌+◌, ◌≤◌, ◌≡◌, refl, true, false, List, [], ◌∷◌, ◌++◌, eqb, length, get_or}
+use Rattle.std.specs.Prelude.{ℕ, ◌+◌, ◌≤◌, ◌≡◌, refl, true, false, List, [], ◌∷◌, ◌++◌, eqb, length, get_or, Ok}
 use Rattle.std.proofs.Common.{sym, ap, ◌∙◌, arith, get_or-set_same}
 use Rattle.std.proofs.Math.Bool.{and-false}
 use borrow.Author.Tests.{eq-eqb}
@@ -10,14 +10,13 @@ use Rattle.laws.specs.Tests.{never}
 use Rattle.checkbyte.specs.Register.{Bytes}
 use Rattle.bench.specs.declared.Station.{Station}
 use Rattle.bench.specs.declared.Fared.TheVariants.{Idle}
-use Rattle.bench.specs.declared.Called.{Called}
-use Rattle.bench.specs.declared.RoundAnswer.{RoundAnswer}
 use Rattle.bench.specs.Stations.{most_stored, Bits, bits_sent, waiting_at}
 use Rattle.bench.proofs.OrderLaws.{same_refl}
 use Rattle.bench.specs.Round.{round_of, verdict_of}
 use Rattle.bench.specs.Calls.{load, round, number_of, taken}
-use Rattle.bench.specs.Promise.{called_number, LoadPromise, RoundPromise, RoundSaid, said, played, round_says}
+use Rattle.bench.specs.Promise.{RoundTold, Called, called_number, LoadPromise, RoundPromise, RoundSaid, said, played, round_says}
 use Rattle.bench.specs.Histories.{waiting, ahead_in, CallMade, loads, withdraws, sets_clock, plays, Happens, rounds_seen, load_seen, loads_seen, withdrawal_seen, NoWithdrawalSeen, traffic_seen, NoTrafficSeen}
+use Rattle.bench.specs.RoundExactlyWhen.{said_number}
 use Rattle.bench.specs.RoundStated.{winner_of, station_at}
 use Rattle.bench.proofs.Places.{waiting_at_law, waiting_length, empty_none}
 use Rattle.bench.specs.Taken.{LoadTaken, load_taken}
@@ -31,16 +30,16 @@ use Rattle.bench.specs.WaitStated.{WaitsAt, ahead_now, GoesOut, RoundCarries, Go
 
 -- ## What it is to go out
 
-module _ (s : ℕ) (x : List ℕ) (b : Bytes x) (lo : 1 ≤ length x) (hi : length x ≤ most_stored) {row exit : List Station} {lent lent_exit : List ℕ} {a : RoundAnswer}
+module _ (s : ℕ) (x : List ℕ) (b : Bytes x) (lo : 1 ≤ length x) (hi : length x ≤ most_stored) {row exit : List Station} {lent lent_exit : List ℕ} {a : RoundTold}
     (p : RoundPromise row exit lent lent_exit a) (t : taken (round lent) row ≡ true) (h : WaitsAt s (bits_sent x) row) (w : winner_of row ≡ bits_sent x) where
   says : said a ≡ played (round_of row)
   unfolding round_says
   says = p.says_it ∙ rw t
 
-  words : a.words ≡ length (round_of row).words
+  words : (said a).words ≡ length (round_of row).words
   words = ap (λ (r : RoundSaid). r.words) says
 
-  time_is : a.line_time.0 ≡ (round_of row).line_time
+  time_is : (said a).line_time ≡ (round_of row).line_time
   time_is = ap (λ (r : RoundSaid). r.line_time) says
 
   empty_after : waiting_at (station_at exit s) ≡ []
@@ -52,7 +51,7 @@ module _ (s : ℕ) (x : List ℕ) (b : Bytes x) (lo : 1 ≤ length x) (hi : leng
   shows =
       let l = on_the_line lent row t in
       record {
-        told = ap (λ (r : RoundSaid). r.number) says;
+        told = sym (said_number a) ∙ ap (λ (r : RoundSaid). r.number) says;
         through =
             ap (λ (r : RoundSaid). get_or r.verdicts s (verdict_of Idle)) says
             ∙ verdict_at_law row s ∙ ap verdict_of (((wins lent row t).through s).1 (sym (waiting_at_law row s) ∙ h ∙ sym w));
@@ -105,7 +104,7 @@ pub data Becomes (s : ℕ) (x : List ℕ) (start row : List Station) (events : L
   is_withdrawn : TakenBack s x row events → Becomes s x start row events exit
   still_waits : WaitsAt s (bits_sent x) exit → rounds_seen events ≤ ahead_in start x + loads_seen x events → Becomes s x start row events exit
 
-module _ (s : ℕ) (x : List ℕ) (start : List Station) (b : Bytes x) {row : List Station} (loaded : LoadPromise s x start row Called.Done) where
+module _ (s : ℕ) (x : List ℕ) (start : List Station) (b : Bytes x) {row : List Station} (loaded : LoadPromise s x start row (Ok tt)) where
   -- The loading was answered with Done, and so it was taken.
   pub loading_taken : taken (load s x) start ≡ true
   unfolding taken

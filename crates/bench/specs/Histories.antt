@@ -5,12 +5,10 @@
 use Rattle.std.specs.Prelude.{ℕ, ◌+◌, ◌≡◌, Bool, false, cond, not, ◌&&◌, ◌||◌, List, [], ◌∷◌, map, eqb}
 use Rattle.symbol.specs.declared.Clock.{Clock}
 use Rattle.bench.specs.declared.Station.{Station}
-use Rattle.bench.specs.declared.Called.{Called}
-use Rattle.bench.specs.declared.RoundAnswer.{RoundAnswer}
 use Rattle.bench.specs.Stations.{Bits, bits_sent, waiting_at}
 use Rattle.bench.specs.Order.{ahead, same_bits}
 use Rattle.bench.specs.Calls.{Call, load, withdraw, set_clock, round}
-use Rattle.bench.specs.Promise.{called_number, told_number, LoadPromise, WithdrawPromise, ClockPromise, RoundPromise}
+use Rattle.bench.specs.Promise.{RoundTold, Called, called_number, told_number, LoadPromise, WithdrawPromise, ClockPromise, RoundPromise}
 
 -- ## A: "the different messages ahead of it when it was loaded"
 
@@ -39,7 +37,7 @@ pub data CallMade : Type 0 where
   loads : (place : ℕ) → (message : List ℕ) → Called → CallMade
   withdraws : (place : ℕ) → Called → CallMade
   sets_clock : (place : ℕ) → Clock → Called → CallMade
-  plays : (lent_entry lent_exit : List ℕ) → RoundAnswer → CallMade
+  plays : (lent_entry lent_exit : List ℕ) → RoundTold → CallMade
 
 -- the call itself
 abbrev pub call_of : CallMade → Call
@@ -66,7 +64,7 @@ abbrev pub answered : CallMade → ℕ
 answered (loads i m a) = called_number a
 answered (withdraws i a) = called_number a
 answered (sets_clock i c a) = called_number a
-answered (plays lent_entry lent_exit a) = told_number a.told
+answered (plays lent_entry lent_exit a) = told_number a
 
 -- the call was not turned away
 abbrev pub accepted : CallMade → Bool
@@ -79,7 +77,7 @@ abbrev pub round_seen : CallMade → ℕ
 round_seen (loads i m a) = 0
 round_seen (withdraws i a) = 0
 round_seen (sets_clock i c a) = 0
-round_seen (plays lent_entry lent_exit a) = cond (eqb (told_number a.told) 0) 1 0
+round_seen (plays lent_entry lent_exit a) = cond (eqb (told_number a) 0) 1 0
 
 -- the rounds that were played
 unfoldable pub rounds_seen : List CallMade → ℕ

@@ -2,7 +2,7 @@
 -- In a history whose calls keep their promises, the answers tell what was taken, and the rows are those of the definitions; and
 -- what L counts.
 use Rattle.std.specs.Prelude.{ℕ, ◌+◌, ◌≡◌, refl, Bool, true, false, cond, ◌&&◌, List, eqb, length}
-use Rattle.std.proofs.Common.{ap, ◌∙◌, arith, eqb-true, eq-eqb}
+use Rattle.std.proofs.Common.{sym, ap, ◌∙◌, arith, eqb-true, eq-eqb}
 use Rattle.bench.specs.declared.Station.{Station}
 use Rattle.bench.specs.Calls.{number_of, taken, after}
 use Rattle.bench.specs.Promise.{RoundSaid, called_number}
@@ -10,13 +10,13 @@ use Rattle.bench.specs.Histories.{CallMade, loads, withdraws, sets_clock, plays,
 use Rattle.bench.specs.Stations.{bits_sent}
 use Rattle.bench.specs.Order.{ahead}
 use Rattle.bench.specs.WaitStated.{LoadAhead, is_load, Picks, none, picked, passed}
-use Rattle.bench.specs.RoundExactlyWhen.{says_number}
+use Rattle.bench.specs.RoundExactlyWhen.{says_number, said_number}
 
 answer_tells : (e : CallMade) (entry exit : List Station) → Keeps e entry exit → answered e ≡ number_of (call_of e) entry
 answer_tells (loads i m a) entry exit k = k.answers_it
 answer_tells (withdraws i a) entry exit k = k.answers_it
 answer_tells (sets_clock i c a) entry exit k = k.answers_it
-answer_tells (plays lent_entry lent_exit a) entry exit k = ap (λ (r : RoundSaid). r.number) k.says_it ∙ says_number entry lent_entry
+answer_tells (plays lent_entry lent_exit a) entry exit k = sym (said_number a) ∙ ap (λ (r : RoundSaid). r.number) k.says_it ∙ says_number entry lent_entry
 
 -- A call is accepted exactly where the rules take it.
 pub accepted_taken : (e : CallMade) (entry exit : List Station) → Keeps e entry exit → accepted e ≡ taken (call_of e) entry

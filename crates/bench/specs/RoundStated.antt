@@ -8,13 +8,12 @@ use Rattle.checkbyte.specs.Register.{Bytes}
 use Rattle.frame.specs.Writing.{most_words}
 use Rattle.bench.specs.declared.Fared.{Fared}
 use Rattle.bench.specs.declared.Fared.TheVariants.{Through, Lost, Idle}
-use Rattle.bench.specs.declared.RoundAnswer.{RoundAnswer}
 use Rattle.bench.specs.declared.Station.{Station}
 use Rattle.bench.specs.Calls.{all_sound}
 use Rattle.bench.specs.Round.{Entry, absent, enters, seat_of, Round, sum_of, round_of, verdict_of, after_fare}
 use Rattle.bench.specs.Histories.{waiting}
 use Rattle.bench.specs.Order.{ahead, Ahead}
-use Rattle.bench.specs.Promise.{said, turned_away}
+use Rattle.bench.specs.Promise.{RoundTold, said, turned_away}
 use Rattle.bench.specs.Course.{Pulse, Seat, out, on, Course, fared_at, asked, most_bits}
 use Rattle.bench.specs.Stations.{Bits, blank, most_stations, empty, waiting_at, most_stored}
 
@@ -189,22 +188,22 @@ pub record InMemory (s : Station) : Type 0 where
   pub bytes : Bytes s.bytes
 
 -- A round that is turned away says so and nothing else, and leaves the row and the words as they were.
-pub record AsItWas (n : ℕ) (entry exit : List Station) (lent_entry lent_exit : List ℕ) (a : RoundAnswer) : Type 0 where
+pub record AsItWas (n : ℕ) (entry exit : List Station) (lent_entry lent_exit : List ℕ) (a : RoundTold) : Type 0 where
   pub row : exit ≡ entry
   pub words : lent_exit ≡ lent_entry
   pub answer : said a ≡ turned_away n
 
 -- how an answer says that a place fared
-abbrev pub told_fare : RoundAnswer → ℕ → Fared
-told_fare a i = (get_or a.verdicts i (verdict_of Idle)).fared
+abbrev pub told_fare : RoundTold → ℕ → Fared
+told_fare a i = (get_or (said a).verdicts i (verdict_of Idle)).fared
 
 -- What the answer, the row and the words of a played round show.
-pub record RoundShown (entry exit : List Station) (lent_exit : List ℕ) (a : RoundAnswer) : Type 0 where
+pub record RoundShown (entry exit : List Station) (lent_exit : List ℕ) (a : RoundTold) : Type 0 where
   -- the first of the messages that wait wins
   pub wins : Wins entry (winner_of entry)
   -- 32 verdicts: exactly the winner's holders are through, exactly the empty places are idle, every other one has lost at the
   -- first difference from the winner
-  pub places : length a.verdicts ≡ most_stations
+  pub places : length (said a).verdicts ≡ most_stations
   pub through : (i : ℕ) → (told_fare a i ≡ Through) ↔ (waiting_at (station_at entry i) ≡ winner_of entry)
   pub idle : (i : ℕ) → (told_fare a i ≡ Idle) ↔ (empty (station_at entry i) ≡ true)
   pub lost : (i k : ℕ)
@@ -215,11 +214,11 @@ pub record RoundShown (entry exit : List Station) (lent_exit : List ℕ) (a : Ro
   -- the words written stand first and are the line of the round
   pub sof : ℕ
   pub widths : List ℕ
-  pub words : take a.words lent_exit ≡ 300 ∷ sof ∷ (widths ++ (300 ∷ []))
+  pub words : take (said a).words lent_exit ≡ 300 ∷ sof ∷ (widths ++ (300 ∷ []))
   pub sof_window : Start sof
   pub line : Carried false (winner_of entry) widths
-  pub number : a.words ≡ 3 + length (winner_of entry)
-  pub few : a.words ≤ most_words
+  pub number : (said a).words ≡ 3 + length (winner_of entry)
+  pub few : (said a).words ≤ most_words
   -- the line time is their sum, less the closing 300
-  pub time : a.line_time.0 + 300 ≡ sum_of (take a.words lent_exit)
-  pub bound : a.line_time.0 ≤ 14438
+  pub time : (said a).line_time + 300 ≡ sum_of (take (said a).words lent_exit)
+  pub bound : (said a).line_time ≤ 14438

@@ -7,9 +7,8 @@ use Rattle.laws.specs.Rules.{FirstToHold, TurnedAway}
 use Rattle.laws.specs.RuleLaws.{refuses}
 use Rattle.symbol.specs.declared.Clock.{Clock}
 use Rattle.bench.specs.declared.Station.{Station}
-use Rattle.bench.specs.declared.Called.{Called}
 use Rattle.bench.specs.Calls.{Call, load, withdraw, set_clock, rules_for, number_of, taken, after}
-use Rattle.bench.specs.Promise.{called_number, LoadPromise, WithdrawPromise, ClockPromise}
+use Rattle.bench.specs.Promise.{Called, called_number, LoadPromise, WithdrawPromise, ClockPromise}
 use Rattle.bench.specs.Taken.{rules_apart}
 
 -- A call that is turned away leaves the row as it was.

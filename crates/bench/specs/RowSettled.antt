@@ -1,33 +1,36 @@
 -- Laws.
 -- Loading, withdrawing and setting a clock are settled: each promise leaves one answer and one row.
-use Rattle.std.specs.Prelude.{ℕ, ◌≡◌, refl, cond, List, eqb}
+use Rattle.std.specs.Prelude.{ℕ, ◌≡◌, refl, cond, List, Ok, Err, eqb}
 use Rattle.std.proofs.Common.{sym, ap, ◌∙◌}
 use Rattle.laws.specs.Settled.{settled}
 use Rattle.symbol.specs.declared.Clock.{Clock}
 use Rattle.bench.specs.declared.Station.{Station}
-use Rattle.bench.specs.declared.Called.{Called}
-use Rattle.bench.specs.Promise.{called_number, LoadPromise, WithdrawPromise, ClockPromise}
+use Rattle.bench.specs.declared.CallRefusal.{CallRefusal}
+use Rattle.bench.specs.Promise.{Called, called_number, LoadPromise, WithdrawPromise, ClockPromise}
+
+-- the refusal back from its number
+abbrev refusal_of : ℕ → CallRefusal
+refusal_of n =
+    cond (eqb n 38) CallRefusal.RowSize
+    (cond (eqb n 39) CallRefusal.UnsoundStation
+    (cond (eqb n 40) CallRefusal.NoStation
+    (cond (eqb n 37) CallRefusal.BadMessage
+    (cond (eqb n 36) CallRefusal.BadClock
+    (cond (eqb n 41) CallRefusal.Holding CallRefusal.NothingWaiting)))))
 
 -- the answer back from its number
 abbrev called_of : ℕ → Called
-called_of n =
-    cond (eqb n 0) Called.Done
-    (cond (eqb n 38) Called.RowSize
-    (cond (eqb n 39) Called.UnsoundStation
-    (cond (eqb n 40) Called.NoStation
-    (cond (eqb n 37) Called.BadMessage
-    (cond (eqb n 36) Called.BadClock
-    (cond (eqb n 41) Called.Holding Called.NothingWaiting))))))
+called_of n = cond (eqb n 0) (Ok tt) (Err (refusal_of n))
 
 back : (a : Called) → called_of (called_number a) ≡ a
-back Called.Done = refl
-back Called.RowSize = refl
-back Called.UnsoundStation = refl
-back Called.NoStation = refl
-back Called.BadMessage = refl
-back Called.BadClock = refl
-back Called.Holding = refl
-back Called.NothingWaiting = refl
+back (Ok x) = refl
+back (Err CallRefusal.RowSize) = refl
+back (Err CallRefusal.UnsoundStation) = refl
+back (Err CallRefusal.NoStation) = refl
+back (Err CallRefusal.BadMessage) = refl
+back (Err CallRefusal.BadClock) = refl
+back (Err CallRefusal.Holding) = refl
+back (Err CallRefusal.NothingWaiting) = refl
 
 -- Two answers with the same number are the same answer.
 pub called_once : (a b : Called) → called_number a ≡ called_number b → a ≡ b

@@ -1,7 +1,7 @@
 -- Laws.
 -- What loading, withdrawing and setting a clock show their caller when they are done: one station changes as document 01 says,
 -- and no other. And what no call changes: the number of stations, and that the row is sound.
-use Rattle.std.specs.Prelude.{ℕ, zero, suc, ◌<◌, ◌≡◌, refl, Bool, true, false, cond, List, [], ◌∷◌, leb, length, set}
+use Rattle.std.specs.Prelude.{ℕ, zero, suc, ◌<◌, ◌≡◌, refl, Bool, true, false, cond, List, [], ◌∷◌, leb, length, set, Ok}
 use Rattle.std.proofs.Common.{sym, ap, ◌∙◌, length-set, get_or-set_same, get_or-set_other, le-leb, eq-eqb}
 use Rattle.laws.specs.Tests.{both}
 use Rattle.symbol.specs.declared.Clock.{Clock}
@@ -9,7 +9,6 @@ use Rattle.symbol.specs.Clocks.{good_of}
 use Rattle.bench.specs.declared.Station.{Station}
 use Rattle.bench.specs.declared.Fared.{Fared}
 use Rattle.bench.specs.declared.Fared.TheVariants.{Idle, Through, Lost}
-use Rattle.bench.specs.declared.Called.{Called}
 use Rattle.bench.specs.Stations.{most_stored, sound, blank}
 use Rattle.bench.specs.Round.{round_of, emptied, after_fare, after_fares}
 use Rattle.bench.specs.Calls.{Call, load, withdraw, set_clock, round, all_sound, number_of, taken, loaded, clocked, done, after}
@@ -30,21 +29,21 @@ only_at i change entry exit h e =
     }
 
 -- "the bytes stand first, their number is the length"
-pub load_shows : {i : ℕ} {m : List ℕ} {entry exit : List Station} → LoadPromise i m entry exit Called.Done → OnlyAt i (loaded m) entry exit
+pub load_shows : {i : ℕ} {m : List ℕ} {entry exit : List Station} → LoadPromise i m entry exit (Ok tt) → OnlyAt i (loaded m) entry exit
 unfolding after taken done
 load_shows {i} {m} {entry} {exit} p =
     let t : taken (load i m) entry ≡ true = eq-eqb (number_of (load i m) entry) 0 (sym p.answers_it) in
     only_at i (loaded m) entry exit (load_taken i m entry t).there (p.leaves_it ∙ rw t)
 
 -- withdrawing leaves "length 0"
-pub withdraw_shows : {i : ℕ} {entry exit : List Station} → WithdrawPromise i entry exit Called.Done → OnlyAt i emptied entry exit
+pub withdraw_shows : {i : ℕ} {entry exit : List Station} → WithdrawPromise i entry exit (Ok tt) → OnlyAt i emptied entry exit
 unfolding after taken done
 withdraw_shows {i} {entry} {exit} p =
     let t : taken (withdraw i) entry ≡ true = eq-eqb (number_of (withdraw i) entry) 0 (sym p.answers_it) in
     only_at i emptied entry exit (withdraw_taken i entry t).there (p.leaves_it ∙ rw t)
 
 -- setting a clock
-pub clock_shows : {i : ℕ} {c : Clock} {entry exit : List Station} → ClockPromise i c entry exit Called.Done → OnlyAt i (clocked c) entry exit
+pub clock_shows : {i : ℕ} {c : Clock} {entry exit : List Station} → ClockPromise i c entry exit (Ok tt) → OnlyAt i (clocked c) entry exit
 unfolding after taken done
 clock_shows {i} {c} {entry} {exit} p =
     let t : taken (set_clock i c) entry ≡ true = eq-eqb (number_of (set_clock i c) entry) 0 (sym p.answers_it) in

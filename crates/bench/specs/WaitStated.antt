@@ -6,14 +6,12 @@ use Rattle.frame.specs.Faults.{most_bytes}
 use Rattle.frame.specs.Reading.{reading, good}
 use Rattle.frame.specs.Writing.{frame_sent, most_words}
 use Rattle.bench.specs.declared.Fared.TheVariants.{Idle, Through}
-use Rattle.bench.specs.declared.Called.{Called}
-use Rattle.bench.specs.declared.RoundAnswer.{RoundAnswer}
 use Rattle.bench.specs.declared.Station.{Station}
 use Rattle.bench.specs.Calls.{taken, round}
 use Rattle.bench.specs.Round.{verdict_of, sum_of}
 use Rattle.bench.specs.Histories.{waiting, among, different_ahead, CallMade, plays, Happens, rounds_seen, loads_seen, NoTrafficSeen, ahead_in, loads, withdraws, sets_clock}
 use Rattle.bench.specs.Order.{same_bits, ahead}
-use Rattle.bench.specs.Promise.{RoundPromise, called_number, told_number}
+use Rattle.bench.specs.Promise.{RoundTold, Called, RoundPromise, called_number, told_number, said}
 use Rattle.bench.specs.RoundStated.{winner_of, station_at}
 use Rattle.bench.specs.Stations.{Bits, bits_sent, waiting_at}
 
@@ -35,7 +33,7 @@ pub record GoesOut (s : ℕ) (x : List ℕ) (row : List Station) (events : List 
   pub before : List CallMade
   pub lent : List ℕ
   pub lent_exit : List ℕ
-  pub answer : RoundAnswer
+  pub answer : RoundTold
   pub later : List CallMade
   pub parts : events ≡ before ++ (plays lent lent_exit answer ∷ later)
   -- the rows at that round
@@ -50,15 +48,15 @@ pub record GoesOut (s : ℕ) (x : List ℕ) (row : List Station) (events : List 
   pub exactly : NoTrafficSeen before → rounds_seen before ≡ ahead_now (bits_sent x) row
 
 -- A round's answer, its words and the row after it show the message x going out from place s.
-pub record RoundCarries (s : ℕ) (x : List ℕ) (exit : List Station) (lent_exit : List ℕ) (a : RoundAnswer) : Type 0 where
-  pub told : told_number a.told ≡ 0
-  pub through : get_or a.verdicts s (verdict_of Idle) ≡ verdict_of Through
+pub record RoundCarries (s : ℕ) (x : List ℕ) (exit : List Station) (lent_exit : List ℕ) (a : RoundTold) : Type 0 where
+  pub told : told_number a ≡ 0
+  pub through : get_or (said a).verdicts s (verdict_of Idle) ≡ verdict_of Through
   -- whole and readable: x is what demand 2's reader finds in the lent words afterwards
   pub readable : (bytes_lent : ℕ) → most_bytes ≤ bytes_lent → reading lent_exit 0 bytes_lent ≡ good (frame_sent x Without [] 0 (2 + length (bits_sent x)))
   -- the line time is the sum of the words written, less the closing 300
-  pub time : a.line_time.0 + 300 ≡ sum_of (take a.words lent_exit)
+  pub time : (said a).line_time + 300 ≡ sum_of (take (said a).words lent_exit)
   -- "No round takes more than 14,438 µs of line time"
-  pub bound : a.line_time.0 ≤ 14438
+  pub bound : (said a).line_time ≤ 14438
   -- the place is empty afterwards
   pub emptied : waiting_at (station_at exit s) ≡ []
 

@@ -38,10 +38,9 @@ pub struct Verdict {
     pub fared: Fared,
 }
 
-// What loading, withdrawing and setting a clock answer. All but Done are refusals, and change nothing.
-#[derive(Clone, Copy)]
-pub enum Called {
-    Done,
+// Why loading, withdrawing or setting a clock is turned away. A refusal changes nothing.
+#[derive(Clone, Copy, Debug, PartialEq, Eq)]
+pub enum CallRefusal {
     RowSize,
     UnsoundStation,
     NoStation,
@@ -51,21 +50,19 @@ pub enum Called {
     NothingWaiting,
 }
 
-// Whether a round was played, or why it was turned away.
-#[derive(Clone, Copy)]
-pub enum RoundTold {
-    Played,
+// Why a round is turned away. A refusal changes nothing, and no word is written.
+#[derive(Clone, Copy, Debug, PartialEq, Eq)]
+pub enum RoundRefusal {
     RowSize,
     UnsoundStation,
     FewLentWords,
     NobodyWaiting,
 }
 
-// What a round answers: how each of 32 places fared, idle past the row, with the number of words written and the line
-// time. Where the round was turned away nothing was written, all places are idle, and both numbers are 0.
+// What a round that is played answers: how each of 32 places fared, idle past the row, with the number of words written
+// and the line time.
 #[derive(Clone, Copy)]
 pub struct RoundAnswer {
-    pub told: RoundTold,
     pub verdicts: [Verdict; MOST_STATIONS],
     pub words: usize,
     pub line_time: Micros,

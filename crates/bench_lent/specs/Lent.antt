@@ -1,37 +1,34 @@
 -- Laws.
 -- The calls on a lent row keep their promises: the row is gathered into a held row, the held row is worked on, and put back.
-use Rattle.std.specs.Prelude.{ℕ, ◌-◌, ◌≤◌, ◌<◌, ◌≡◌, refl, Bool, true, false, not, ltb, length, take, get_or, replicate}
+use Rattle.std.specs.Prelude.{ℕ, zero, suc, ◌-◌, ◌≤◌, ◌<◌, ◌≡◌, refl, false, not, Result, Ok, Err, ltb, length, take, get_or, replicate}
 use Rattle.std.proofs.Math.Path.{ap}
-use Rattle.std.proofs.Common.{ap₂, ◌∙◌, arith, length-set, eqb-true, eq-eqb, leb-false, ltb-false}
-use Rattle.std.proofs.Math.Bool.{cond}
+use Rattle.std.proofs.Common.{sym, ◌∙◌, arith, eq-eqb, leb-false, ltb-false}
 use mathlib.Core.List.{List, ◌++◌}
 use Rattle.std.proofs.Math.Dec.{eqb}
 use Rattle.std.proofs.Math.ListN.{set, get_or-append}
 use Rattle.std.proofs.Math.Seq.{take-set-lt, take-append_seam}
-use Rattle.laws.specs.Tests.{neither}
+use Rattle.laws.specs.Tests.{never, neither}
 use Rattle.laws.specs.Rules.{Rule, first_rule}
 use Rattle.laws.specs.RuleLaws.{Agree, first_same}
 use Rattle.symbol.specs.declared.Clock.{Clock}
 use Rattle.bench.specs.declared.Station.{Station}
+use Rattle.bench.specs.declared.CallRefusal.{CallRefusal}
 use Rattle.bench.specs.Stations.{most_stations, empty, blank}
 use Rattle.bench.specs.Round.{emptied}
 use Rattle.bench.specs.Calls.{Call, load, withdraw, set_clock, round, row_size, all_sound, all_empty, place_rules, load_rules, withdraw_rules, clock_rules, rules_on, rules_for, number_of, taken, loaded, clocked, done, after}
-use Rattle.bench.specs.Promise.{LoadPromise, WithdrawPromise, ClockPromise}
+use Rattle.bench.specs.Promise.{called_number, LoadPromise, WithdrawPromise, ClockPromise}
+use Rattle.bench.specs.RowExactlyWhen.{turned_away_law}
 use Rattle.bench.specs.Taken.{load_taken, withdraw_taken, clock_taken}
 use Rattle.bench_row.specs.declared.HeldRow.{HeldRow}
-use Rattle.bench_calls.specs.declared.Changed.{Changed}
-use Rattle.bench_row.specs.HeldRows.{held_of, put_count}
-use Rattle.bench_calls.specs.Changes.{station_of, with_of, ChangedBy, call_number, loaded_row, withdrawn_row, clocked_row}
+use Rattle.bench_row.specs.HeldRows.{held_of}
+use Rattle.bench_calls.specs.Changes.{station_of, with_of, ChangedBy, call_number, loaded_row, withdrawn_row, clocked_row, called_in}
+use Rattle.bench_calls.specs.ChangeLaws.{some_number}
 use Rattle.bench_lent.specs.Padding.{sound_pad, empty_pad}
-use Rattle.bench_lent.specs.Restoring.{padded, put_back, put_first, put_none}
+use Rattle.bench_lent.specs.Restoring.{padded, put_back, put_first}
 
 -- ## A row that is not turned away for its size
 
 module _ (row : List Station) (few : length row ≤ most_stations) where
-  -- After a call that is taken every station is put back.
-  pub all_back : put_count (length row) true ≡ length row
-  all_back = omega arith
-
   -- A held row is sound where the row is ..
   pub sound_same : all_sound (held_of row).at ≡ all_sound row
   sound_same = ap all_sound (padded row few) ∙ sound_pad (most_stations - length row) row
@@ -47,10 +44,10 @@ module _ (row : List Station) (few : length row ≤ most_stations) where
   row_first = ap (take (length row)) (padded row few) ∙ take-append_seam row (replicate (most_stations - length row) blank)
 
   -- another station at a place of the row
-  put_station : (i : ℕ) → i < length row → (s : Station) → put_back (with_of (held_of row) i s) true row ≡ set row i s
+  put_station : (i : ℕ) → i < length row → (s : Station) → put_back (with_of (held_of row) i s) row ≡ set row i s
   unfolding with_of
   put_station i h s =
-      put_first (with_of (held_of row) i s) row (set row i s) all_back (length-set row i s)
+      put_first (with_of (held_of row) i s) row (set row i s) few
       (take-set-lt (length row) (held_of row).at i s h ∙ ap (λ (l : List Station). set l i s) row_first)
 
 -- A row that 38 does not turn away has at most 32 stations.
@@ -88,62 +85,68 @@ module _ (row : List Station) where
   unfolding number_of
   same_number c = first_same (rules_on c (length row) (held_of row).at) (rules_for c row) (agree c)
 
--- ## The calls at a place
+-- ## The calls
 
--- the row after a call at a place
-restored : (row : List Station) (i number : ℕ) (s t : Station) (b : HeldRow) (took : Bool) → b ≡ cond (eqb number 0) (with_of (held_of row) i s) (held_of row) → took ≡ eqb number 0
-    → (number ≡ 0 → (length row ≤ most_stations) × (i < length row)) → (length row ≤ most_stations → i < length row → s ≡ t)
-    → put_back b took row ≡ cond (eqb number 0) (set row i t) row
-restored row i number s t b took e y in_row same = go (eqb number 0) refl e
-  where
-    go : (x : Bool) → eqb number 0 ≡ x → b ≡ cond x (with_of (held_of row) i s) (held_of row) → put_back b took row ≡ cond x (set row i t) row
-    go true p f =
-        let k = in_row (eqb-true number 0 p) in
-        ap₂ (λ (c : HeldRow) (z : Bool). put_back c z row) f (y ∙ p) ∙ put_station row k.0 i k.1 s ∙ ap (set row i) (same k.0 k.1)
-    go false p f = ap (λ (z : Bool). put_back b z row) (y ∙ p) ∙ put_none b row
+-- the lent row after a call at a place: a call that is turned away stores nothing
+abbrev pub left_by : List Station → Result HeldRow CallRefusal → List Station
+left_by row (Ok next) = put_back next row
+left_by row (Err e) = row
 
-module _ (row : List Station) (i : ℕ) (r : Changed) where
-  module _ (m : List ℕ) (c : ChangedBy (held_of row) (call_number (load i m) (held_of row)) (loaded_row (held_of row) i m) r) where
+module _ (row : List Station) (b : HeldRow) (g : b ≡ held_of row) where
+  -- A call that is turned away answers the number, and leaves the row ..
+  refused : (c : Call) (e : CallRefusal) → called_number (Err e) ≡ call_number c b
+      → (called_number (Err e) ≡ number_of c row) × (row ≡ after c row)
+  unfolding held_of
+  refused c e p =
+      let q = p ∙ ap (call_number c) g ∙ same_number row c in
+      let z : 0 < number_of c row = some (called_number (Err e)) (some_number e) q in
+      (q, sym (turned_away_law c row (number_of c row) z refl))
+    where
+      some : (n : ℕ) {m : ℕ} → eqb n 0 ≡ false → n ≡ m → 0 < m
+      some zero h k = never refl h
+      some (suc n) h k = omega arith
+
+  -- .. and one that is taken has the number 0.
+  goes : (c : Call) → call_number c b ≡ 0 → number_of c row ≡ 0
+  unfolding held_of
+  goes c p = sym (same_number row c) ∙ sym (ap (call_number c) g) ∙ p
+
+  module _ (i : ℕ) where
     -- Loading on the lent row keeps its promise ..
-    pub load_kept : LoadPromise i m row (put_back r.held r.taken row) r.called
-    unfolding after taken done held_of
-    load_kept =
+    pub load_kept : (m : List ℕ) (r : Result HeldRow CallRefusal) → ChangedBy (call_number (load i m) b) (loaded_row b i m) r
+        → LoadPromise i m row (left_by row r) (called_in r)
+    unfolding after taken done
+    load_kept m (Err e) p = let q = refused (load i m) e p in record { answers_it = q.0; leaves_it = q.1 }
+    load_kept m (Ok next) p =
+        let z = goes (load i m) p.0 in
+        let t = load_taken i m row (eq-eqb (number_of (load i m) row) 0 z) in
         record {
-          answers_it = c.says ∙ same_number row (load i m);
-          leaves_it =
-              restored row i (number_of (load i m) row) (loaded m (station_of (held_of row) i)) (loaded m (get_or row i blank)) r.held r.taken
-              (c.leaves ∙ ap (λ (n : ℕ). cond (eqb n 0) (loaded_row (held_of row) i m) (held_of row)) (same_number row (load i m)))
-              (c.takes ∙ ap (λ (n : ℕ). eqb n 0) (same_number row (load i m)))
-              (λ z. let k = load_taken i m row (eq-eqb (number_of (load i m) row) 0 z) in (k.passed.few, k.there))
-              (λ few h. ap (loaded m) (station_same row few i h));
+          answers_it = sym z;
+          leaves_it = rw (z, p.1, g) (put_station row t.passed.few i t.there _ ∙ ap (λ (s : Station). set row i (loaded m s)) (station_same row t.passed.few i t.there));
         }
 
-  module _ (c : ChangedBy (held_of row) (call_number (withdraw i) (held_of row)) (withdrawn_row (held_of row) i) r) where
     -- .. withdrawing too ..
-    pub withdraw_kept : WithdrawPromise i row (put_back r.held r.taken row) r.called
-    unfolding after taken done held_of
-    withdraw_kept =
+    pub withdraw_kept : (r : Result HeldRow CallRefusal) → ChangedBy (call_number (withdraw i) b) (withdrawn_row b i) r
+        → WithdrawPromise i row (left_by row r) (called_in r)
+    unfolding after taken done
+    withdraw_kept (Err e) p = let q = refused (withdraw i) e p in record { answers_it = q.0; leaves_it = q.1 }
+    withdraw_kept (Ok next) p =
+        let z = goes (withdraw i) p.0 in
+        let t = withdraw_taken i row (eq-eqb (number_of (withdraw i) row) 0 z) in
         record {
-          answers_it = c.says ∙ same_number row (withdraw i);
-          leaves_it =
-              restored row i (number_of (withdraw i) row) (emptied (station_of (held_of row) i)) (emptied (get_or row i blank)) r.held r.taken
-              (c.leaves ∙ ap (λ (n : ℕ). cond (eqb n 0) (withdrawn_row (held_of row) i) (held_of row)) (same_number row (withdraw i)))
-              (c.takes ∙ ap (λ (n : ℕ). eqb n 0) (same_number row (withdraw i)))
-              (λ z. let k = withdraw_taken i row (eq-eqb (number_of (withdraw i) row) 0 z) in (k.passed.few, k.there))
-              (λ few h. ap emptied (station_same row few i h));
+          answers_it = sym z;
+          leaves_it = rw (z, p.1, g) (put_station row t.passed.few i t.there _ ∙ ap (λ (s : Station). set row i (emptied s)) (station_same row t.passed.few i t.there));
         }
 
-  module _ (k : Clock) (c : ChangedBy (held_of row) (call_number (set_clock i k) (held_of row)) (clocked_row (held_of row) i k) r) where
     -- .. and setting a clock.
-    pub clock_kept : ClockPromise i k row (put_back r.held r.taken row) r.called
-    unfolding after taken done held_of
-    clock_kept =
+    pub clock_kept : (k : Clock) (r : Result HeldRow CallRefusal) → ChangedBy (call_number (set_clock i k) b) (clocked_row b i k) r
+        → ClockPromise i k row (left_by row r) (called_in r)
+    unfolding after taken done
+    clock_kept k (Err e) p = let q = refused (set_clock i k) e p in record { answers_it = q.0; leaves_it = q.1 }
+    clock_kept k (Ok next) p =
+        let z = goes (set_clock i k) p.0 in
+        let t = clock_taken i k row (eq-eqb (number_of (set_clock i k) row) 0 z) in
         record {
-          answers_it = c.says ∙ same_number row (set_clock i k);
-          leaves_it =
-              restored row i (number_of (set_clock i k) row) (clocked k (station_of (held_of row) i)) (clocked k (get_or row i blank)) r.held r.taken
-              (c.leaves ∙ ap (λ (n : ℕ). cond (eqb n 0) (clocked_row (held_of row) i k) (held_of row)) (same_number row (set_clock i k)))
-              (c.takes ∙ ap (λ (n : ℕ). eqb n 0) (same_number row (set_clock i k)))
-              (λ z. let t = clock_taken i k row (eq-eqb (number_of (set_clock i k) row) 0 z) in (t.passed.few, t.there))
-              (λ few h. ap (clocked k) (station_same row few i h));
+          answers_it = sym z;
+          leaves_it = rw (z, p.1, g) (put_station row t.passed.few i t.there _ ∙ ap (λ (s : Station). set row i (clocked k s)) (station_same row t.passed.few i t.there));
         }

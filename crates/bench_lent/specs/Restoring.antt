@@ -1,21 +1,18 @@
 -- Machinery.
 -- A lent row becomes a held row, and a held row goes back into the lent row.
-use Rattle.std.specs.Prelude.{ℕ, zero, suc, ◌+◌, ◌-◌, ◌≤◌, ◌<◌, min, ◌≡◌, refl, Bool, true, false, ◌⊎◌, List, [], ◌∷◌, ◌++◌, map, length, take, get_or, set, replicate}
-use Rattle.std.proofs.Common.{sym, ap, ◌∙◌, inl, inr, arith, length-append, length-take, get_or-take, take-suc, take_all, length-take-le, add-one}
-use Rattle.std.proofs.lemmas.List.{length-replicate, take-append-le, set_at}
-use Rattle.std.proofs.Math.Seq.{take-length, take-set-lt, set_out, append_snoc}
+use Rattle.std.specs.Prelude.{ℕ, zero, suc, ◌+◌, ◌-◌, ◌≤◌, ◌<◌, min, ◌≡◌, refl, ◌⊎◌, List, [], ◌∷◌, ◌++◌, length, take, drop, replicate}
+use Rattle.std.proofs.Common.{sym, ap, ◌∙◌, inl, inr, arith, length-append, take_all}
+use Rattle.std.proofs.lemmas.List.{length-replicate, take-append-le, drop-replicate}
+use Rattle.std.proofs.Math.Seq.{take-length}
+use Rattle.std.proofs.Math.ListN.{drop_of_length-le}
+use mathlib.Core.List.{append-nil}
 use Rattle.laws.specs.Tests.{up_to}
 use Rattle.bench.specs.declared.Station.{Station}
 use Rattle.bench.specs.Stations.{most_stations, blank}
 use Rattle.bench_row.specs.declared.HeldRow.{HeldRow}
-use Rattle.loops.specs.Scan.{from, from_same, from_list, get_d_any, filled, fill_start, fill_length, fill_all}
-use Rattle.bench_row.specs.HeldRows.{held_of, put_count}
+use Rattle.bench_row.specs.HeldRows.{held_of}
 
 -- ## Gathering
-
--- the places of a held row, of which i are filled
-unfoldable pub gathered : List Station → ℕ → List Station
-gathered row i = take most_stations (take i row ++ replicate most_stations blank)
 
 blanks : (n m : ℕ) → n ≤ m → take n (replicate m blank) ≡ replicate n blank
 blanks zero m k = refl
@@ -28,59 +25,6 @@ enough [] n m k g h = blanks n m (omega arith) ∙ sym (blanks n k (omega arith)
 enough (s ∷ l) zero m k g h = refl
 enough (s ∷ l) (suc n) m k g h = ap (λ (r : List Station). s ∷ r) (enough l n m k (omega arith) (omega arith))
 
--- none yet
-pub gather_start : (row : List Station) → replicate most_stations blank ≡ gathered row 0
-unfolding gathered
-gather_start row = refl
-
--- one station more
-pub gather_more : (row : List Station) (i : ℕ) (d : Station) → i < length row → set (gathered row i) i (get_or row i d) ≡ gathered row (i + 1)
-unfolding gathered
-gather_more row i d h = go (up_to most_stations i)
-  where
-    p : List Station
-    p = take i row
-
-    n : length p ≡ i
-    n = length-take-le i row (omega arith)
-
-    next : take (i + 1) row ≡ p ++ (get_or row i d ∷ [])
-    next = ap (λ (k : ℕ). take k row) (add-one i) ∙ take-suc row i d h
-
-    go : (most_stations ≤ i) ⊎ (i < most_stations) → set (take most_stations (p ++ replicate most_stations blank)) i (get_or row i d) ≡ take most_stations (take (i + 1) row ++ replicate most_stations blank)
-    go (inl k) =
-        set_out (take most_stations (p ++ replicate most_stations blank)) i (get_or row i d) (omega (arith, length-take most_stations (p ++ replicate most_stations blank)))
-        ∙ take-append-le most_stations p (replicate most_stations blank) (omega (arith, n))
-        ∙ sym (take-append-le most_stations (take (i + 1) row) (replicate most_stations blank) (omega (arith, length-take-le (i + 1) row (omega arith)))
-        ∙ ap (take most_stations) next ∙ take-append-le most_stations p (get_or row i d ∷ []) (omega (arith, n)))
-    go (inr k) =
-        let z : most_stations ≡ suc 31 = refl in
-        sym (take-set-lt most_stations (p ++ replicate most_stations blank) i (get_or row i d) k)
-        ∙ ap (take most_stations) (set_at p blank (replicate 31 blank) (get_or row i d) i n ∙ sym (append_snoc p (get_or row i d) (replicate 31 blank)))
-        ∙ enough (p ++ (get_or row i d ∷ [])) most_stations 31 most_stations (omega (arith, n, length-append p (get_or row i d ∷ []))) (omega arith)
-        ∙ ap (λ (l : List Station). take most_stations (l ++ replicate most_stations blank)) (sym next)
-
--- all that a held row keeps
-pub gather_all : (row : List Station) (i : ℕ) → i ≡ min (length row) most_stations → (let b : HeldRow = record { at = gathered row i; count = length row } in b) ≡ held_of row
-unfolding gathered held_of
-gather_all row i e = ap (λ (l : List Station). record { at = l; count = length row }) (go (up_to most_stations (length row)))
-  where
-    go : (most_stations ≤ length row) ⊎ (length row < most_stations) → take most_stations (take i row ++ replicate most_stations blank) ≡ take most_stations (row ++ replicate most_stations blank)
-    go (inl k) =
-        let f : i ≡ most_stations = omega arith in
-        ap (λ (n : ℕ). take most_stations (take n row ++ replicate most_stations blank)) f
-        ∙ take-append-le most_stations (take most_stations row) (replicate most_stations blank) (omega (arith, length-take-le most_stations row k))
-        ∙ take_all most_stations (take most_stations row) (omega (arith, length-take-le most_stations row k))
-        ∙ sym (take-append-le most_stations row (replicate most_stations blank) k)
-    go (inr k) =
-        let f : i ≡ length row = omega arith in
-        ap (λ (l : List Station). take most_stations (l ++ replicate most_stations blank)) (ap (λ (n : ℕ). take n row) f ∙ take-length row)
-
--- However many are filled, there are 32 places.
-pub gather_length : (row : List Station) (i : ℕ) → length (gathered row i) ≡ most_stations
-unfolding gathered
-gather_length row i = omega (arith, length-take most_stations (take i row ++ replicate most_stations blank), length-append (take i row) (replicate most_stations blank), length-replicate most_stations blank)
-
 -- a row of at most 32, and what is blank past it
 pub padded : (row : List Station) → length row ≤ most_stations → (held_of row).at ≡ row ++ replicate (most_stations - length row) blank
 unfolding held_of
@@ -89,42 +33,36 @@ padded row h =
     enough row most_stations most_stations (most_stations - length row) (omega arith) (omega arith)
     ∙ take_all most_stations (row ++ replicate (most_stations - length row) blank) (omega (arith, length-append row (replicate k blank), length-replicate k blank))
 
+-- The places of a row, as many as are kept, and blank ones past them are its held row.
+pub gathers : (row at : List Station) (n : ℕ) → n ≡ min (length row) most_stations → at ≡ take n row ++ drop n (replicate most_stations blank)
+    → (let b : HeldRow = record { at = at; count = length row } in b) ≡ held_of row
+unfolding held_of
+gathers row at n e p = ap (λ (l : List Station). record { at = l; count = length row }) (p ∙ go (up_to most_stations (length row)))
+  where
+    go : (most_stations ≤ length row) ⊎ (length row < most_stations) → take n row ++ drop n (replicate most_stations blank) ≡ take most_stations (row ++ replicate most_stations blank)
+    go (inl k) =
+        let f : n ≡ most_stations = omega arith in
+        ap (λ (m : ℕ). take m row ++ drop m (replicate most_stations blank)) f
+        ∙ append-nil (take most_stations row)
+        ∙ sym (take-append-le most_stations row (replicate most_stations blank) k)
+    go (inr k) =
+        let f : n ≡ length row = omega arith in
+        ap (λ (m : ℕ). take m row ++ drop m (replicate most_stations blank)) f
+        ∙ ap (λ (l : List Station). l ++ drop (length row) (replicate most_stations blank)) (take-length row)
+        ∙ ap (λ (l : List Station). row ++ l) (drop-replicate (length row) most_stations blank)
+        ∙ sym (padded row (omega arith))
+
 -- ## Putting back
 
--- the row with the stations of a held row in its places, and as it was where the call was turned away
-unfoldable pub put_back : HeldRow → Bool → List Station → List Station
-put_back b taken row = filled (λ (i : ℕ). get_or b.at i (get_or row i blank)) row (put_count (length row) taken)
+-- the row with the stations of a held row in its places, as many as that keeps
+unfoldable pub put_back : HeldRow → List Station → List Station
+put_back b row = take (min (length row) most_stations) b.at ++ drop (min (length row) most_stations) row
 
--- No more are put back than there are.
-pub put_few : (n : ℕ) (taken : Bool) → put_count n taken ≤ n
-put_few n true = omega arith
-put_few n false = omega arith
-
--- As many stations as there were.
-pub put_length : (b : HeldRow) (taken : Bool) (row : List Station) → length (put_back b taken row) ≡ length row
+-- A held row whose first places are a row of the same length is put back as that row.
+pub put_first : (b : HeldRow) (row new : List Station) → length row ≤ most_stations → take (length row) b.at ≡ new → put_back b row ≡ new
 unfolding put_back
-put_length b taken row = fill_length (λ (i : ℕ). get_or b.at i (get_or row i blank)) row (put_count (length row) taken) (put_few (length row) taken)
-
-same_list : (l : List Station) (n : ℕ) → length l ≡ n → from (λ (i : ℕ). get_or l i blank) 0 n ≡ l
-same_list l n e = ap (from (λ (i : ℕ). get_or l i blank) 0) (sym e) ∙ from_list (λ (s : Station). s) l blank ∙ ident l
-  where
-    ident : (l : List Station) → map (λ (s : Station). s) l ≡ l
-    ident [] = refl
-    ident (s ∷ l) = ap (λ (r : List Station). s ∷ r) (ident l)
-
--- A held row whose first places are a row of the same length is put back as that row ..
-pub put_first : (b : HeldRow) (row new : List Station) → put_count (length row) true ≡ length row → length new ≡ length row → take (length row) b.at ≡ new → put_back b true row ≡ new
-unfolding put_back
-put_first b row new all n e =
-    ap (filled (λ (i : ℕ). get_or b.at i (get_or row i blank)) row) all
-    ∙ fill_all (λ (i : ℕ). get_or b.at i (get_or row i blank)) row (length row) (length row) refl (omega arith) (omega arith)
-    ∙ from_same (λ (i : ℕ). get_or b.at i (get_or row i blank)) (λ (i : ℕ). get_or new i blank) 0 (length row)
-    (λ i lo hi.
-    sym (get_or-take (length row) b.at i (get_or row i blank) (omega (arith, hi))) ∙ ap (λ (l : List Station). get_or l i (get_or row i blank)) e
-    ∙ get_d_any new i (get_or row i blank) blank (omega (arith, hi)))
-    ∙ same_list new (length row) n
-
--- .. and after a call that was turned away every station is as it was, however long the row is.
-pub put_none : (b : HeldRow) (row : List Station) → put_back b false row ≡ row
-unfolding put_back
-put_none b row = sym (fill_start (λ (i : ℕ). get_or b.at i (get_or row i blank)) row)
+put_first b row new few e =
+    let n : min (length row) most_stations ≡ length row = omega arith in
+    ap (λ (m : ℕ). take m b.at ++ drop m row) n
+    ∙ ap (λ (l : List Station). take (length row) b.at ++ l) (drop_of_length-le row {i = length row} (omega arith))
+    ∙ append-nil (take (length row) b.at) ∙ e

@@ -1,13 +1,14 @@
 -- Machinery.
 -- A round that passed its tests: what its words, its line time and its verdicts come to, and the stations after it.
-use Rattle.std.specs.Prelude.{ℕ, zero, suc, ◌+◌, ◌-◌, ◌≤◌, ◌<◌, ◌≡◌, refl, true, take, get_or, replicate}
-use Rattle.std.proofs.Common.{sym, ap₂, ◌∙◌, arith, length-append, get_or-take, take_at}
+use Rattle.std.specs.Prelude.{ℕ, zero, suc, ◌+◌, ◌-◌, ◌≤◌, ◌<◌, ◌^◌, ◌≡◌, refl, true, take, get_or, sum, replicate}
+use Rattle.std.specs.List.{fold}
+use Rattle.std.proofs.Common.{sym, ap₂, ◌∙◌, arith, length-append, take_at}
 use Rattle.std.proofs.Math.Path.{ap, subst}
 use mathlib.Core.List.{List, [], ◌∷◌, ◌++◌, map, append_assoc, append-nil}
 use Rattle.std.proofs.Math.ListN.{length, drop, set, length-set, get_or-map}
 use Rattle.std.proofs.lemmas.List.{length-map}
 use Rattle.std.proofs.lemmas.List.Edits.{sets}
-use Rattle.std.proofs.Math.Seq.{length-sets, length-take-le}
+use Rattle.std.proofs.Math.Seq.{length-sets}
 use Rattle.laws.specs.Lent.{sets_then, sets_first}
 use Rattle.symbol.specs.Sending.{end_width}
 use Rattle.frame.specs.Writing.{most_words}
@@ -22,7 +23,7 @@ use Rattle.bench.specs.Calls.{all_sound, written}
 use Rattle.bench.proofs.RowLaws.{fares_against, row_fares, row_comes}
 use Rattle.bench.specs.RoundStated.{winner_of}
 use Rattle.bench.specs.Promise.{RoundSaid, played}
-use Rattle.loops.specs.Scan.{from, from_same, filled, fill_ahead, fill_more, fill_all, fold_start, fold_more, fold_all, get_d_any}
+use Rattle.loops.specs.Scan.{from, from_same, filled, fill_ahead, fill_more, fill_all, get_d_any}
 use Rattle.bench_line.specs.declared.Contended.{Contended}
 use Rattle.bench_line.specs.Contending.{course_on, ContendedIn, ContendedBy}
 use Rattle.bench_line.specs.ContendLaws.{sound_sent, course_few}
@@ -123,38 +124,18 @@ module _ (at : List Station) (n : length at ≡ most_stations) (h : all_sound at
 
 -- ## The sum of words
 
-sum_one : (w : ℕ) (ws : List ℕ) → sum_of ws + w ≡ sum_of (w ∷ ws)
+sum_from : (n : ℕ) (ws : List ℕ) → fold (λ (x y : ℕ). x + y) n ws ≡ n + sum_of ws
 unfolding sum_of
-sum_one w ws = omega arith
+sum_from n [] = omega arith
+sum_from n (w ∷ ws) = omega (arith, sum_from (n + w) ws)
 
--- a part of a sum is no more than the sum
-sum_part : (ws : List ℕ) (i : ℕ) → sum_of (drop i ws) ≤ sum_of ws
-unfolding sum_of
-sum_part ws zero = omega arith
-sum_part [] (suc i) = omega arith
-sum_part (w ∷ ws) (suc i) = omega (arith, sum_part ws i)
+-- All widths together are the library's sum of them.
+pub sum_same : (ws : List ℕ) → sum ws ≡ sum_of ws
+sum_same ws = omega (arith, sum_from 0 ws)
 
--- The first n words, summed from the last of them on.
-module _ (ws : List ℕ) (n : ℕ) (h : n ≤ length ws) where
-  -- nothing is summed yet
-  pub sum_start : 0 ≡ sum_of (drop n (take n ws))
-  unfolding sum_of
-  sum_start = fold_start sum_of (λ (x y : ℕ). x + y) sum_one (take n ws) n (omega (arith, length-take-le n ws h))
-
-  module _ (i v : ℕ) (hi : i ≤ n) (e : v ≡ sum_of (drop i (take n ws))) where
-    -- one word more
-    pub sum_more : 0 < i → v + get_or ws (i - 1) 0 ≡ sum_of (drop (i - 1) (take n ws))
-    sum_more lo =
-        fold_more sum_of (λ (x y : ℕ). x + y) sum_one (take n ws) i 0 lo (omega (arith, length-take-le n ws h)) v (v + get_or ws (i - 1) 0) e
-        (ap (λ (w : ℕ). v + w) (sym (get_or-take n ws (i - 1) 0 (omega arith))))
-
-    -- what is summed so far is no more than the whole
-    pub sum_fits : 0 < i → v + get_or ws (i - 1) 0 ≤ sum_of (take n ws)
-    sum_fits lo = omega (arith, sum_more lo, sum_part (take n ws) (i - 1))
-
-    -- all words are summed
-    pub sum_all : i ≤ 0 → v ≡ sum_of (take n ws)
-    sum_all z = fold_all sum_of (λ (x y : ℕ). x + y) sum_one (take n ws) i z v e
+-- A line time fits.
+pub sum_fits : (ws : List ℕ) → sum_of ws ≤ 14438 → sum ws < 2 ^ 32
+sum_fits ws h = omega (arith, sum_same ws)
 
 -- ## The stations afterwards
 

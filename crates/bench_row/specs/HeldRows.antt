@@ -1,6 +1,6 @@
 -- Machinery.
 -- A row by value, as it is gathered from a lent one and put back.
-use Rattle.std.specs.Prelude.{ℕ, min, Bool, cond, List, ◌++◌, length, take, replicate}
+use Rattle.std.specs.Prelude.{List, ◌++◌, length, take, replicate}
 use Rattle.bench.specs.declared.Station.{Station}
 use Rattle.bench.specs.Stations.{most_stations, blank}
 use Rattle.bench_row.specs.declared.HeldRow.{HeldRow}
@@ -8,7 +8,3 @@ use Rattle.bench_row.specs.declared.HeldRow.{HeldRow}
 -- the held row of a lent one
 unfoldable pub held_of : List Station → HeldRow
 held_of row = record { at = take most_stations (row ++ replicate most_stations blank); count = length row }
-
--- how many stations are put back into a row of so many: none where the call was turned away
-abbrev pub put_count : ℕ → Bool → ℕ
-put_count count taken = cond taken (min count most_stations) 0

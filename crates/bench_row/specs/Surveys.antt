@@ -1,8 +1,8 @@
 -- Machinery.
 -- What is asked of a whole row before a call on it is taken.
-use Rattle.std.specs.Prelude.{ℕ, max, cond, ◌&&◌, List, map}
+use Rattle.std.specs.Prelude.{ℕ, max, cond, List, map}
 use Rattle.bench.specs.declared.Station.{Station}
-use Rattle.bench.specs.Stations.{empty, sound}
+use Rattle.bench.specs.Stations.{empty}
 use Rattle.bench.specs.Course.{longest}
 use Rattle.bench.specs.Round.{entry_of, sofs_asked}
 use Rattle.bench.specs.Calls.{all_sound, all_empty}
@@ -12,9 +12,9 @@ use Rattle.bench_row.specs.declared.survey.Survey.{Survey}
 abbrev pub sof_of : Station → ℕ
 sof_of s = cond (empty s) 0 s.clock.sof.0
 
--- one station, taken in with what is known of those after it
-abbrev pub survey_by : Survey → Station → Survey
-survey_by v s = record { sound = sound s && v.sound; empty = empty s && v.empty; sof = max (sof_of s) v.sof }
+-- the longer of a SOF and the one that a station asks for
+abbrev pub longer : ℕ → Station → ℕ
+longer sof s = max sof (sof_of s)
 
 -- what is asked of a row
 abbrev pub survey_of : List Station → Survey

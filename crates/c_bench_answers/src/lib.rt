@@ -2,12 +2,11 @@
 #![tactic(auto)]
 
 ghost use Rattle.std.specs.Prelude.{◌≡◌, map};
-ghost use Rattle.bench.specs.Promise.{called_number, told_number, said};
+ghost use Rattle.bench.specs.Promise.{called_number, said, turned_away};
 ghost use Rattle.c_bench_answers.specs.Answers.{called_as, verdict_as, round_as};
 
-use bench::{Called, Fared, MOST_STATIONS, RoundTold};
+use bench::{CallRefusal, Fared, MOST_STATIONS, RoundRefusal};
 use frame_numbers::{BAD_CLOCK, BAD_MESSAGE, DONE, FEW_LENT};
-use units::Micros;
 
 // What loading, withdrawing and setting a clock answer: document 01's number.
 #[repr(C)]
@@ -52,45 +51,61 @@ const THROUGH: u32 = 1;
 
 const LOST: u32 = 2;
 
-// Document 01's number for what a call at a place answers.
-fn called_number(called: Called) -> u32
-    ensures { result ≡ called_number called }
-{
-    match called {
-        Called::Done => DONE,
-        Called::RowSize => ROW_SIZE,
-        Called::UnsoundStation => UNSOUND,
-        Called::NoStation => NO_STATION,
-        Called::BadMessage => BAD_MESSAGE,
-        Called::BadClock => BAD_CLOCK,
-        Called::Holding => HOLDING,
-        Called::NothingWaiting => NOTHING_WAITING,
+// What a call at a place answers.
+impl From<Result<(), CallRefusal>> for CallAnswer {
+    ghost from_gives = { λ called answer. answer ≡ called_as (called_number called) };
+
+    fn from(called: Result<(), CallRefusal>) -> CallAnswer {
+        let number = match called {
+            Ok(()) => DONE,
+            Err(CallRefusal::RowSize) => ROW_SIZE,
+            Err(CallRefusal::UnsoundStation) => UNSOUND,
+            Err(CallRefusal::NoStation) => NO_STATION,
+            Err(CallRefusal::BadMessage) => BAD_MESSAGE,
+            Err(CallRefusal::BadClock) => BAD_CLOCK,
+            Err(CallRefusal::Holding) => HOLDING,
+            Err(CallRefusal::NothingWaiting) => NOTHING_WAITING,
+        };
+        CallAnswer { number }
     }
 }
 
-// What a call at a place answers.
-pub fn called_as(called: Called) -> CallAnswer
-    ensures { result ≡ called_as (called_number called) }
-{
-    let number = called_number(called);
-    CallAnswer { number }
+// How a place fared.
+impl From<bench::Verdict> for Verdict {
+    ghost from_gives = { λ verdict plain. plain ≡ verdict_as verdict };
+
+    fn from(verdict: bench::Verdict) -> Verdict {
+        match verdict.fared {
+            Fared::Idle => Verdict {
+                fared: IDLE,
+                bit: 0,
+            },
+            Fared::Through => Verdict {
+                fared: THROUGH,
+                bit: 0,
+            },
+            Fared::Lost(bit) => Verdict { fared: LOST, bit },
+        }
+    }
 }
 
-// How a place fared.
-fn verdict_as(verdict: bench::Verdict) -> Verdict
-    ensures { result ≡ verdict_as verdict }
-{
-    let fared = verdict.fared;
-    match fared {
-        Fared::Idle => Verdict {
-            fared: IDLE,
-            bit: 0,
-        },
-        Fared::Through => Verdict {
-            fared: THROUGH,
-            bit: 0,
-        },
-        Fared::Lost(bit) => Verdict { fared: LOST, bit },
+// What a round answers.
+impl From<Result<bench::RoundAnswer, RoundRefusal>> for RoundAnswer {
+    ghost from_gives = { λ told answer. answer ≡ round_as (said told) };
+
+    fn from(told: Result<bench::RoundAnswer, RoundRefusal>) -> RoundAnswer {
+        match told {
+            Ok(answer) => RoundAnswer {
+                number: DONE,
+                line_time: answer.line_time.0,
+                words: answer.words,
+                verdicts: verdicts_as(answer.verdicts),
+            },
+            Err(RoundRefusal::RowSize) => turned_away(ROW_SIZE),
+            Err(RoundRefusal::UnsoundStation) => turned_away(UNSOUND),
+            Err(RoundRefusal::FewLentWords) => turned_away(FEW_LENT),
+            Err(RoundRefusal::NobodyWaiting) => turned_away(NOTHING_WAITING),
+        }
     }
 }
 
@@ -98,47 +113,21 @@ fn verdict_as(verdict: bench::Verdict) -> Verdict
 fn verdicts_as(verdicts: [bench::Verdict; MOST_STATIONS]) -> [Verdict; MOST_STATIONS]
     ensures { result ≡ map verdict_as verdicts }
 {
+    verdicts.map(|verdict| Verdict::from(verdict))
+}
+
+// A round that is turned away under a number: all places idle, and both counts 0.
+fn turned_away(number: u32) -> RoundAnswer
+    ensures { result ≡ round_as (turned_away number) }
+{
     let idle = Verdict {
         fared: IDLE,
         bit: 0,
     };
-    let mut all: [Verdict; MOST_STATIONS] = [idle; MOST_STATIONS];
-    let mut i = 0;
-    while i < MOST_STATIONS {
-        let verdict = verdicts[i];
-        let plain = verdict_as(verdict);
-        all[i] = plain;
-        i += 1;
-    }
-    all
-}
-
-// Document 01's number for a round that was played or turned away.
-fn told_number(told: RoundTold) -> u32
-    ensures { result ≡ told_number told }
-{
-    match told {
-        RoundTold::Played => DONE,
-        RoundTold::RowSize => ROW_SIZE,
-        RoundTold::UnsoundStation => UNSOUND,
-        RoundTold::FewLentWords => FEW_LENT,
-        RoundTold::NobodyWaiting => NOTHING_WAITING,
-    }
-}
-
-// What a round answers.
-pub fn round_as(answer: bench::RoundAnswer) -> RoundAnswer
-    ensures { result ≡ round_as (said answer) }
-{
-    let told = answer.told;
-    let fared = answer.verdicts;
-    let line_time: Micros = answer.line_time;
-    let number = told_number(told);
-    let verdicts = verdicts_as(fared);
     RoundAnswer {
         number,
-        line_time: line_time.0,
-        words: answer.words,
-        verdicts,
+        line_time: 0,
+        words: 0,
+        verdicts: [idle; MOST_STATIONS],
     }
 }

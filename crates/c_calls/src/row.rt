@@ -15,7 +15,7 @@ pub extern "C" fn j1850_load(row: &mut [Station], place: usize, message: &[u8]) 
     ensures { (result ≡ called_as (number_of (Calls.load place message.now) row.old))
         × (row.new ≡ after (Calls.load place message.now) row.old) }
 {
-    c_bench_answers::called_as(bench_lent::load(row, place, message))
+    CallAnswer::from(bench_lent::load(row, place, message))
 }
 
 // Withdraws the message of the station at a place.
@@ -24,7 +24,7 @@ pub extern "C" fn j1850_withdraw(row: &mut [Station], place: usize) -> CallAnswe
     ensures { (result ≡ called_as (number_of (Calls.withdraw place) row.old))
         × (row.new ≡ after (Calls.withdraw place) row.old) }
 {
-    c_bench_answers::called_as(bench_lent::withdraw(row, place))
+    CallAnswer::from(bench_lent::withdraw(row, place))
 }
 
 // Sets the clock of the station at a place.
@@ -33,7 +33,7 @@ pub extern "C" fn j1850_set_clock(row: &mut [Station], place: usize, clock: Cloc
     ensures { (result ≡ called_as (number_of (Calls.set_clock place clock) row.old))
         × (row.new ≡ after (Calls.set_clock place clock) row.old) }
 {
-    c_bench_answers::called_as(bench_lent::set_clock(row, place, clock))
+    CallAnswer::from(bench_lent::set_clock(row, place, clock))
 }
 
 // Plays a round and writes its words into those lent, at least 101.
@@ -43,5 +43,5 @@ pub extern "C" fn j1850_round(row: &mut [Station], words: &mut [u32]) -> RoundAn
         × (row.new ≡ after (Calls.round words.old) row.old)
         × (words.new ≡ lent_after row.old words.old) }
 {
-    c_bench_answers::round_as(bench_lent::round(row, words))
+    RoundAnswer::from(bench_lent::round(row, words))
 }

@@ -1,7 +1,9 @@
 -- `bench_round::play` meets its contract: the opening, the SOF, the bits and the closing end, laid one after the other.
 use native.Mathlib.Omega.{arith}
+use mathlib.Core.Path.{sym, ◌∙◌}
+use Rattle.std.proofs.Common.{length-take-le}
 use lib.ListN.{length-set}
-use Rattle.bench_round.specs.Playing.{few_bits, words_are, mid_length, time_bound, answer_is}
+use Rattle.bench_round.specs.Playing.{few_bits, words_are, mid_length, time_bound, answer_is, sum_same, sum_fits}
 use borrow.Author.Rules.{rules}
 use Rattle.bench_round.proofs.play.Goals as goal
 
@@ -19,6 +21,25 @@ offset_bounds-words-closing c =
     let r = c.requires in
     let s = c.contend-contended.ensures in
     omega (arith, few_bits c.args.at (search rules) r.0 c.args.sof r.1 c.args.words.now r.2 _ _ s)
+
+pub slice_bounds-sum-end : goal.slice_bounds-sum-end
+slice_bounds-sum-end c =
+    let r = c.requires in
+    let s = c.contend-contended.ensures in
+    simp length-set (omega (
+      arith,
+      r.2,
+      few_bits c.args.at (search rules) r.0 c.args.sof r.1 c.args.words.now r.2 _ _ s,
+      mid_length c.args.at (search rules) r.0 c.args.sof r.1 c.args.words.now r.2 _ _ s,
+    ))
+
+pub slice_bounds-sum-end-2 : goal.slice_bounds-sum-end-2
+slice_bounds-sum-end-2 c =
+    let r = c.requires in
+    let s = c.contend-contended.ensures in
+    let few = few_bits c.args.at (search rules) r.0 c.args.sof r.1 c.args.words.now r.2 _ _ s in
+    let long = mid_length c.args.at (search rules) r.0 c.args.sof r.1 c.args.words.now r.2 _ _ s in
+    sym (length-take-le _ _ (simp length-set (omega (arith, r.2, few, long))))
 
 pub bounds-words-closing : goal.bounds-words-closing
 bounds-words-closing c =
@@ -41,9 +62,7 @@ pub sum-time-requires : goal.sum-time-requires
 sum-time-requires c =
     let r = c.requires in
     let s = c.contend-contended.ensures in
-    let fits = few_bits c.args.at (search rules) r.0 c.args.sof r.1 c.args.words.now r.2 _ _ s in
-    let long = mid_length c.args.at (search rules) r.0 c.args.sof r.1 c.args.words.now r.2 _ _ s in
-    (simp length-set (omega (arith, r.2, fits, long)), time_bound c.args.at (search rules) r.0 c.args.sof r.1 c.args.words.now r.2 _ _ s)
+    sum_fits _ (time_bound c.args.at (search rules) r.0 c.args.sof r.1 c.args.words.now r.2 _ _ s)
 
 pub shape_of-words : goal.shape_of-words
 shape_of-words c =
@@ -55,6 +74,6 @@ pub returns : goal.returns
 returns c =
     let r = c.requires in
     let s = c.contend-contended.ensures in (
-      answer_is c.args.at (search rules) r.0 c.args.sof r.1 c.args.words.now r.2 _ _ s _ c.sum-time.ensures,
+      answer_is c.args.at (search rules) r.0 c.args.sof r.1 c.args.words.now r.2 _ _ s _ (c.sum-time.ensures ∙ sum_same _),
       words_are c.args.at (search rules) r.0 c.args.sof r.1 c.args.words.now r.2 _ _ s,
     )

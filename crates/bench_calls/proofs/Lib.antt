@@ -1,2 +1,0 @@
-mod Loading
-mod Setting
