@@ -1,5 +1,5 @@
 -- Laws.
--- Laws of what the stations bring to a round: the bytes of one, its lane, and the places past the last holder.
+-- Laws of what the stations bring to a round: the bytes of one, its sender, and the places past the last holder.
 use Rattle.std.specs.Prelude.{ℕ, zero, suc, ◌+◌, ◌*◌, ◌-◌, ◌≤◌, ◌<◌, min, ◌≡◌, refl, true, false, List, [], ◌∷◌, ◌++◌, map, length, take, get_or, replicate, None}
 use Rattle.std.proofs.Common.{ap, ap₂, ◌∙◌, arith, length-append, length-take-le, take_at, eq-eqb, ne_eqb}
 use Rattle.checkbyte.specs.Register.{check_of, with_check}
@@ -9,18 +9,18 @@ use Rattle.bench.specs.declared.Station.{Station}
 use Rattle.bench.specs.declared.Fared.TheVariants.{Idle}
 use Rattle.bench.specs.Stations.{most_stored, empty, blank}
 use Rattle.bench.specs.Course.{Seat, out}
-use Rattle.bench_lane.specs.declared.lane.Lane.{Lane}
+use Rattle.bench_line.specs.declared.sender.Sender.{Sender}
 use Rattle.bench_line.specs.Lanes.{seat_at, rest_at}
 use Rattle.bench_line.specs.Entries.{place_of}
 use Rattle.bench_line.specs.Stated.{clipped}
 
--- ## The lane of a station
+-- ## The sender of a station
 
 -- what is filled up after a message is not sent
 sent_part : (x y : List ℕ) → take (8 * length x) (bits_of (x ++ y)) ≡ bits_of x
 sent_part x y = ap (take (8 * length x)) (bits_append x y) ∙ take_at (bits_of x) (bits_of y) (8 * length x) (bits_length x)
 
-module _ (s : Station) (whole : length s.bytes ≡ most_stored) (l : Lane) (c : l.clock ≡ s.clock) (e : l.lost ≡ None) where
+module _ (s : Station) (whole : length s.bytes ≡ most_stored) (l : Sender) (c : l.lane.clock ≡ s.clock) (e : l.lane.lost ≡ None) where
   message : List ℕ
   message = take (min s.len most_stored) s.bytes
 
@@ -28,17 +28,17 @@ module _ (s : Station) (whole : length s.bytes ≡ most_stored) (l : Lane) (c : 
   unfolding message
   few = length-take-le (min s.len most_stored) s.bytes (omega arith)
 
-  -- Where the message is empty its lane has nothing to send ..
-  pub lane_empty : length (take (min s.len most_stored) s.bytes) ≡ 0 → l.count ≡ 0 → seat_at false 0 l ≡ place_of s
+  -- Where the message is empty its sender has nothing to send ..
+  pub sender_empty : length (take (min s.len most_stored) s.bytes) ≡ 0 → l.lane.count ≡ 0 → seat_at false 0 l ≡ place_of s
   unfolding seat_at rest_at message
-  lane_empty h n = rw (n, eq-eqb (min s.len most_stored) 0 (omega (arith, few)))
+  sender_empty h n = rw (n, eq-eqb (min s.len most_stored) 0 (omega (arith, few)))
 
   -- .. and otherwise it sends eight bits for each byte, the check byte included.
-  pub lane_holder : (length (take (min s.len most_stored) s.bytes) ≡ 0 → ⊥) → l.count ≡ (length (take (min s.len most_stored) s.bytes) + 1) * 8
+  pub sender_holder : (length (take (min s.len most_stored) s.bytes) ≡ 0 → ⊥) → l.lane.count ≡ (length (take (min s.len most_stored) s.bytes) + 1) * 8
       → l.frame ≡ with_check (take (min s.len most_stored) s.bytes) ++ replicate (most_stored - length (take (min s.len most_stored) s.bytes)) 0 → seat_at false 0 l ≡ place_of s
   unfolding seat_at rest_at message
-  lane_holder h n f =
-      let k : l.count ≡ 8 * length (with_check message) = omega (arith, length-append message (check_of message ∷ [])) in
+  sender_holder h n f =
+      let k : l.lane.count ≡ 8 * length (with_check message) = omega (arith, length-append message (check_of message ∷ [])) in
       rw (
         e,
         f,
