@@ -6,7 +6,7 @@ use bench_lane::{Ask, BITS_OF_BYTE, Lane};
 
 // A place of a round, and the bytes that its bits stand in, the check byte included.
 #[derive(Clone, Copy)]
-pub(crate) struct Sender {
+pub struct Sender {
     pub lane: Lane,
     pub frame: [u8; MOST_SENT],
     // It sends no bit that its bytes do not hold.
@@ -19,7 +19,7 @@ impl Sender {
 
     // What it asks of the line at bit j, from 0 on.
     #[tactic(auto, unfolding(crate::specs::Lanes::ask_at))]
-    pub(crate) fn asks(&self, active: bool, j: usize) -> Ask
+    pub fn asks(&self, active: bool, j: usize) -> Ask
         ensures { result ≡ ask_at active j self.now }
     {
         let byte = self.frame.get(j / BITS_OF_BYTE).copied().unwrap_or(0);
