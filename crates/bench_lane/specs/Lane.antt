@@ -1,10 +1,10 @@
 -- Definitions.
 -- One place of a round as the code keeps it: what it asks at a bit, and what becomes of it.
-use Rattle.std.specs.Prelude.{ℕ, ◌-◌, ◌/◌, ◌%◌, ◌^◌, min, max, Bool, cond, eqb, leb, ◌||◌, is_some, get_or, Option, None, Some}
+use Rattle.std.specs.Prelude.{ℕ, ◌-◌, ◌/◌, ◌%◌, ◌^◌, min, max, Bool, cond, eqb, leb, ◌||◌, is_some, Option, None, Some}
 use Rattle.std.specs.Bool.{beq}
 use Rattle.symbol.specs.Sending.{bit_width}
 use Rattle.frame.specs.Bits.{odd}
-use Rattle.bench_lane.specs.declared.lane.Lane.{Lane}
+use Rattle.bench_lane.specs.declared.Lane.{Lane}
 use Rattle.bench_lane.specs.declared.Ask.{Ask}
 use Rattle.bench_lane.specs.declared.Ask.TheVariants.{Out, Ended, Bit}
 
@@ -16,12 +16,12 @@ bit_of byte j = odd (byte / 2 ^ (7 - j % 8))
 abbrev pub bit_asked : Lane → Bool → Bool → Ask
 bit_asked l active one = Bit one (bit_width l.clock active one).0
 
--- what a place asks of the line at bit j, from 0 on
-unfoldable pub ask_of : Lane → Bool → ℕ → Ask
-ask_of l active j =
+-- what a place asks of the line at bit j, from 0 on, with the byte that the bit lies in
+unfoldable pub ask_of : Lane → ℕ → Bool → ℕ → Ask
+ask_of l byte active j =
     cond (is_some l.lost || eqb l.count 0) Out
     (cond (leb l.count j) Ended
-    (bit_asked l active (bit_of (get_or l.frame (j / 8) 0) j)))
+    (bit_asked l active (bit_of byte j)))
 
 -- the bit at which a place has lost, once bit k was on the line
 abbrev pub lost_by : ℕ → Bool → Ask → Option ℕ → Option ℕ

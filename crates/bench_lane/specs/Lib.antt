@@ -1,2 +1,4 @@
 -- Definitions.
 pub mod Lane
+-- Laws.
+pub mod LaneLaws

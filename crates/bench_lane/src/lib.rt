@@ -5,12 +5,19 @@
 ghost use Rattle.std.specs.Prelude.{◌≡◌};
 ghost use Rattle.bench_lane.specs.Lane.{bit_of, ask_of, outlasts_of, taken_in, lost_by};
 
-mod lane;
-
-pub use lane::Lane;
+use symbol::Clock;
 
 // The bits of a byte.
 pub const BITS_OF_BYTE: usize = 8;
+
+// A place of a round: how many bits it has to send, 0 where it is empty; its clock; and the bit at which it lost, counted
+// from 1 after the SOF. The bytes that it sends are kept beside it.
+#[derive(Clone, Copy)]
+pub struct Lane {
+    pub count: usize,
+    pub clock: Clock,
+    pub lost: Option<usize>,
+}
 
 // What a place asks of the line at a bit: nothing, because it is out of the round or was never in it; nothing, because
 // it has sent its check byte; or a bit, a 1 or not, of a width.
@@ -21,10 +28,11 @@ pub enum Ask {
     Bit(bool, u32),
 }
 
-// What a place asks of the line at bit j, from 0 on. Most places are out of most rounds soon, so that is looked at first.
+// What a place asks of the line at bit j, from 0 on, with the byte in which bit j lies. Most places are out of most rounds
+// soon, so that is looked at first.
 #[tactic(auto, unfolding(crate::specs::Lane::ask_of))]
-pub fn asks(lane: &Lane, active: bool, j: usize) -> Ask
-    ensures { result ≡ ask_of lane.now active j }
+pub fn asks(lane: &Lane, byte: u8, active: bool, j: usize) -> Ask
+    ensures { result ≡ ask_of lane.now byte active j }
 {
     if lane.lost.is_some() || lane.count == 0 {
         return Ask::Out;
@@ -32,7 +40,7 @@ pub fn asks(lane: &Lane, active: bool, j: usize) -> Ask
     if lane.count <= j {
         return Ask::Ended;
     }
-    let one = bit_of(lane.frame[j / BITS_OF_BYTE], j);
+    let one = bit_of(byte, j);
     Ask::Bit(one, symbol::bit_width(lane.clock, active, one).0)
 }
 

@@ -14,7 +14,7 @@ use Rattle.bench.specs.Stations.{most_stations, most_stored, sound}
 use Rattle.bench.specs.Course.{Seat, out, Course, asked, widths_of, lasts, on_line, heard, nobody_asks, most_bits, over, bit_then, play, fared_at}
 use Rattle.bench.specs.Round.{entry_of, seat_of, verdict_of}
 use Rattle.bench.specs.Calls.{all_sound}
-use Rattle.bench_lane.specs.declared.lane.Lane.{Lane}
+use Rattle.bench_line.specs.declared.sender.Sender.{Sender}
 use Rattle.bench_line.specs.declared.Contended.{Contended}
 use Rattle.bench_line.specs.Lanes.{seats_at, fared_of, verdict_at}
 use Rattle.bench_line.specs.Sending.{course_of, SendsBits}
@@ -120,9 +120,9 @@ pub all_send : (row : List Station) (lent left : List ℕ) → most_words ≤ le
 unfolding course_lent
 all_send row lent left h r p = rw (le-ltb (length lent) most_words h) p
 
--- What is sent over the lanes of the stations up to the last holder are the bits of the round.
+-- What is sent over the places of the stations up to the last holder are the bits of the round.
 module _ (row : List Station) (n : length row ≡ most_stations) (places : ℕ) (s : Holders row places)
-    (ls : List Lane) (begun : seats_at false 0 ls ≡ map place_of (take places row)) where
+    (ls : List Sender) (begun : seats_at false 0 ls ≡ map place_of (take places row)) where
   same : course_on (map clipped row) ≡ with_idle (most_stations - places) (course_of ls)
   unfolding course_on with_idle
   same =
@@ -136,7 +136,7 @@ module _ (row : List Station) (n : length row ≡ most_stations) (places : ℕ) 
       three [] = refl
       three (s ∷ l) = ap (λ (r : List Seat). place_of s ∷ r) (three l)
 
-  pub contended : (ls' : List Lane) (lent left : List ℕ) (bits : ℕ) → SendsBits ls ls' lent left bits → (verdicts : List Verdict)
+  pub contended : (ls' : List Sender) (lent left : List ℕ) (bits : ℕ) → SendsBits ls ls' lent left bits → (verdicts : List Verdict)
       → verdicts ≡ map verdict_at ls' ++ replicate (most_stations - places) (verdict_of Idle)
       → ContendedIn (course_on (map clipped row)) lent left (record { bits = bits; verdicts = verdicts })
   unfolding with_idle
@@ -150,6 +150,6 @@ module _ (row : List Station) (n : length row ≡ most_stations) (places : ℕ) 
         leaves = t.writes_them ∙ sym (ap (λ (x : Course). sets lent 2 x.widths) same);
       }
     where
-      two : (ls : List Lane) → map verdict_at ls ≡ map verdict_of (map fared_of ls)
+      two : (ls : List Sender) → map verdict_at ls ≡ map verdict_of (map fared_of ls)
       two [] = refl
       two (l ∷ ls) = ap (λ (r : List Verdict). verdict_at l ∷ r) (two ls)

@@ -1,14 +1,14 @@
 -- Laws.
--- The loops over the lanes: what they have come to, and one place more.
+-- The loops over the senders: what they have come to, and one place more.
 use Rattle.std.specs.Prelude.{ℕ, ◌+◌, ◌-◌, ◌≤◌, ◌<◌, min, max, ◌≡◌, refl, Bool, true, false, not, List, [], ◌∷◌, ◌++◌, map, length, take, drop, get_or, set, replicate, Option, None, Some}
 use Rattle.std.proofs.Common.{sym, ap, ap₂, ◌∙◌, arith, append_assoc, append-nil, take_all}
 use Rattle.std.proofs.lemmas.List.{map-append, length-set, map_more, take_more_set, drop-set-lt, drop_more, drop-replicate, length-map, length-take-le}
 use Rattle.std.proofs.Math.Seq.{set-append_seam}
 use Rattle.bench.specs.Course.{Pulse, Seat, out, on, asks, asked, widths_of, shortest, longest, heard}
-use Rattle.bench_lane.specs.declared.lane.Lane.{Lane}
+use Rattle.bench_line.specs.declared.sender.Sender.{Sender}
 use Rattle.bench_lane.specs.declared.Ask.{Ask}
-use Rattle.bench_lane.specs.Lane.{ask_of, lost_by, taken_in}
-use Rattle.bench_line.specs.Lanes.{seat_at, seats_at, asked_by}
+use Rattle.bench_lane.specs.Lane.{lost_by, taken_in}
+use Rattle.bench_line.specs.Lanes.{seat_at, seats_at, ask_at, asked_by}
 use Rattle.bench_line.specs.SeatLaws.{ask_for, ask_is, heard_is}
 
 -- ## What places ask together, one place more
@@ -42,9 +42,9 @@ asked_more (t ∷ seats) s = rw (asked_more seats s) (sym (append_assoc (asks t)
 one_more : (active : Bool) (seats : List Seat) (s : Seat) → taken_in active (asked_by active (asked seats)) (ask_for s) ≡ asked_by active (asked (seats ++ (s ∷ [])))
 one_more active seats s = taken_more active (asked seats) s ∙ ap (asked_by active) (sym (asked_more seats s))
 
--- The places before i of a list of lanes ask this together; one place more.
-pub ask_more : (active : Bool) (j : ℕ) (ls : List Lane) (i : ℕ) (v : Option ℕ) → v ≡ asked_by active (asked (seats_at active j (take i ls)))
-    → i < length ls → (l : Lane) → l ≡ get_or ls i l → (ask : Ask) → ask ≡ ask_of l active j → (u : Option ℕ) → u ≡ taken_in active v ask
+-- The places before i of a list of senders ask this together; one place more.
+pub ask_more : (active : Bool) (j : ℕ) (ls : List Sender) (i : ℕ) (v : Option ℕ) → v ≡ asked_by active (asked (seats_at active j (take i ls)))
+    → i < length ls → (l : Sender) → l ≡ get_or ls i l → (ask : Ask) → ask ≡ ask_at active j l → (u : Option ℕ) → u ≡ taken_in active v ask
     → u ≡ asked_by active (asked (seats_at active j (take (i + 1) ls)))
 ask_more active j ls i v e h l q ask f u g =
     g ∙ ap₂ (taken_in active) e (f ∙ ask_is l active j) ∙ one_more active (seats_at active j (take i ls)) (seat_at active j l)
@@ -54,23 +54,23 @@ ask_more active j ls i v e h l q ask f u g =
 -- ## What places hear, one place more
 
 -- the places before i have heard bit j, those from i on have not, and this is what the former ask at the bit after it
-pub record Hearing (active : Bool) (j : ℕ) (one : Bool) (first now : List Lane) (i : ℕ) (v : Option ℕ) : Type 0 where
+pub record Hearing (active : Bool) (j : ℕ) (one : Bool) (first now : List Sender) (i : ℕ) (v : Option ℕ) : Type 0 where
   pub heard_so : seats_at (not active) (j + 1) (take i now) ≡ map (heard (j + 1) one) (seats_at active j (take i first))
   pub ahead : drop i now ≡ drop i first
   pub whole : length now ≡ length first
   pub asks_so : v ≡ asked_by (not active) (asked (seats_at (not active) (j + 1) (take i now)))
 
 -- Before the first place none has heard it.
-pub hear_start : (active : Bool) (j : ℕ) (one : Bool) (first : List Lane) → Hearing active j one first first 0 None
+pub hear_start : (active : Bool) (j : ℕ) (one : Bool) (first : List Sender) → Hearing active j one first first 0 None
 unfolding asked
 hear_start active j one first = record { heard_so = refl; ahead = refl; whole = refl; asks_so = refl }
 
-module _ {active : Bool} {j : ℕ} {one : Bool} {first now : List Lane} {i : ℕ} {v : Option ℕ} (s : Hearing active j one first now i v) where
+module _ {active : Bool} {j : ℕ} {one : Bool} {first now : List Sender} {i : ℕ} {v : Option ℕ} (s : Hearing active j one first now i v) where
   -- One place more hears it, and asks.
-  pub hear_more : i < length now → (l : Lane) → l ≡ get_or now i l → (ask : Ask) → ask ≡ ask_of l active j
-      → (y : Lane) → y ≡ record l { lost = lost_by (j + 1) one ask l.lost } → (next : Ask) → next ≡ ask_of y (not active) (j + 1)
+  pub hear_more : i < length now → (l : Sender) → l ≡ get_or now i l → (ask : Ask) → ask ≡ ask_at active j l
+      → (y : Sender) → y.lane ≡ record l.lane { lost = lost_by (j + 1) one ask l.lane.lost } → y.frame ≡ l.frame → (next : Ask) → next ≡ ask_at (not active) (j + 1) y
       → (u : Option ℕ) → u ≡ taken_in (not active) v next → Hearing active j one first (set now i y) (i + 1) u
-  hear_more h l q ask a y e next f u g =
+  hear_more h l q ask a y e z next f u g =
       let k : i < length first = omega (arith, s.whole) in
       let c : get_or now i l ∷ drop (i + 1) now ≡ get_or first i l ∷ drop (i + 1) first = sym (drop_more now i l h) ∙ s.ahead ∙ drop_more first i l k in
       let same : l ≡ get_or first i l = cc in
@@ -79,8 +79,8 @@ module _ {active : Bool} {j : ℕ} {one : Bool} {first now : List Lane} {i : ℕ
         heard_so =
             seats h y
             ∙ ap₂ (λ (xs : List Seat) (x : Seat). xs ++ (x ∷ [])) s.heard_so
-            (heard_is l active j one y (e ∙ ap (λ (x : Ask). record l { lost = lost_by (j + 1) one x l.lost }) a)
-            ∙ ap (λ (x : Lane). heard (j + 1) one (seat_at active j x)) same)
+            (heard_is l active j one y (e ∙ ap (λ (x : Ask). record l.lane { lost = lost_by (j + 1) one x l.lane.lost }) a) z
+            ∙ ap (λ (x : Sender). heard (j + 1) one (seat_at active j x)) same)
             ∙ sym (map-append (heard (j + 1) one) (seats_at active j (take i first)) (seat_at active j (get_or first i l) ∷ []))
             ∙ ap (map (heard (j + 1) one)) (sym (map_more (seat_at active j) first i l k));
         ahead = drop-set-lt (i + 1) now i y (omega arith) ∙ rest;
@@ -91,7 +91,7 @@ module _ {active : Bool} {j : ℕ} {one : Bool} {first now : List Lane} {i : ℕ
             ∙ ap (λ (xs : List Seat). asked_by (not active) (asked xs)) (sym (seats h y));
       }
     where
-      seats : i < length now → (y : Lane)
+      seats : i < length now → (y : Sender)
           → seats_at (not active) (j + 1) (take (i + 1) (set now i y)) ≡ seats_at (not active) (j + 1) (take i now) ++ (seat_at (not active) (j + 1) y ∷ [])
       seats h y = ap (seats_at (not active) (j + 1)) (take_more_set now i y h) ∙ map-append (seat_at (not active) (j + 1)) (take i now) (y ∷ [])
 
@@ -99,11 +99,11 @@ module _ {active : Bool} {j : ℕ} {one : Bool} {first now : List Lane} {i : ℕ
   pub hear_all : length first ≤ i → seats_at (not active) (j + 1) now ≡ map (heard (j + 1) one) (seats_at active j first)
   hear_all h =
       ap (seats_at (not active) (j + 1)) (sym (take_all i now (omega (arith, s.whole)))) ∙ s.heard_so
-      ∙ ap (λ (ls : List Lane). map (heard (j + 1) one) (seats_at active j ls)) (take_all i first h)
+      ∙ ap (λ (ls : List Sender). map (heard (j + 1) one) (seats_at active j ls)) (take_all i first h)
 
   -- And this is what they ask then.
   pub asks_all : length first ≤ i → v ≡ asked_by (not active) (asked (seats_at (not active) (j + 1) now))
-  asks_all h = s.asks_so ∙ ap (λ (ls : List Lane). asked_by (not active) (asked (seats_at (not active) (j + 1) ls))) (take_all i now (omega (arith, s.whole)))
+  asks_all h = s.asks_so ∙ ap (λ (ls : List Sender). asked_by (not active) (asked (seats_at (not active) (j + 1) ls))) (take_all i now (omega (arith, s.whole)))
 
 -- ## An array that is filled from a list
 

@@ -9,27 +9,27 @@ use Rattle.std.proofs.Math.Seq.{length-take-le}
 use Rattle.laws.specs.Lent.{sets_then}
 use Rattle.frame.specs.Writing.{most_words}
 use Rattle.bench.specs.Course.{Pulse, Seat, asked, widths_of, lasts, on_line, heard, Course, over, bit_then, nobody_asks, most_bits, play, fared_at}
-use Rattle.bench_lane.specs.declared.lane.Lane.{Lane}
+use Rattle.bench_line.specs.declared.sender.Sender.{Sender}
 use Rattle.bench_line.specs.Lanes.{seats_at, asked_by, fared_of}
-use Rattle.bench_line.specs.SeatLaws.{fares_is}
+use Rattle.bench_line.specs.SeatLaws.{fares_are}
 
--- the bits of a round over these lanes
-abbrev pub course_of : List Lane → Course
+-- the bits of a round over these senders
+abbrev pub course_of : List Sender → Course
 course_of ls = play most_bits false 1 (seats_at false 0 ls)
 
 -- What sending them comes to: their widths after the opening and the SOF, no other word changed, and how each place fared.
-pub record SendsBits (ls ls' : List Lane) (old new : List ℕ) (count : ℕ) : Type 0 where
+pub record SendsBits (ls ls' : List Sender) (old new : List ℕ) (count : ℕ) : Type 0 where
   pub counts_them : count ≡ length (course_of ls).widths
   pub few : count ≤ most_bits
   pub writes_them : new ≡ sets old 2 (course_of ls).widths
   pub fares_so : map fared_of ls' ≡ map fared_at (course_of ls).seats
 
 -- what is still to come at bit j
-abbrev left_of : List Lane → Bool → ℕ → Course
+abbrev left_of : List Sender → Bool → ℕ → Course
 left_of ls active j = play (most_bits - j) active (suc j) (seats_at active j ls)
 
--- before bit j, of a round that these lanes began
-pub record Sending (first : List Lane) (old : List ℕ) (ls : List Lane) (active : Bool) (j : ℕ) (new : List ℕ) : Type 0 where
+-- before bit j, of a round that these senders began
+pub record Sending (first : List Sender) (old : List ℕ) (ls : List Sender) (active : Bool) (j : ℕ) (new : List ℕ) : Type 0 where
   pub inside : j ≤ most_bits
   pub reached : j ≤ length (course_of first).widths
   pub space : most_words ≤ length old
@@ -38,7 +38,7 @@ pub record Sending (first : List Lane) (old : List ℕ) (ls : List Lane) (active
   pub to_come : left_of ls active j ≡ record { widths = drop j (course_of first).widths; seats = (course_of first).seats }
 
 -- Before the first bit nothing is sent.
-pub sending_start : (ls : List Lane) (old : List ℕ) → most_words ≤ length old → Sending ls old ls false 0 old
+pub sending_start : (ls : List Sender) (old : List ℕ) → most_words ≤ length old → Sending ls old ls false 0 old
 sending_start ls old h = record { inside = omega arith; reached = omega arith; space = h; long = refl; written = refl; to_come = refl }
 
 play_none : (active : Bool) (k : ℕ) (seats : List Seat) → play 0 active k seats ≡ over seats
@@ -75,11 +75,7 @@ some_asks : (active : Bool) (ps : List Pulse) (w : ℕ) → Some w ≡ asked_by 
 some_asks active [] w e = absurd (none-some w (sym e))
 some_asks active (p ∷ ps) w e = (refl, same_Some _ _ e)
 
-fares_all : (active : Bool) (j : ℕ) (ls : List Lane) → map fared_at (seats_at active j ls) ≡ map fared_of ls
-fares_all active j [] = refl
-fares_all active j (l ∷ ls) = rw (fares_is l active j, fares_all active j ls)
-
-module _ {first : List Lane} {old : List ℕ} {ls : List Lane} {active : Bool} {j : ℕ} {new : List ℕ} (s : Sending first old ls active j new) where
+module _ {first : List Sender} {old : List ℕ} {ls : List Sender} {active : Bool} {j : ℕ} {new : List ℕ} (s : Sending first old ls active j new) where
   all : List ℕ
   all = (course_of first).widths
 
@@ -93,7 +89,7 @@ module _ {first : List Lane} {old : List ℕ} {ls : List Lane} {active : Bool} {
         counts_them = omega (arith, s.reached);
         few = s.inside;
         writes_them = s.written ∙ ap (sets old 2) (take_all j all n);
-        fares_so = sym (fares_all active j ls) ∙ ap (λ (c : Course). map fared_at c.seats) (sym e ∙ s.to_come);
+        fares_so = sym (fares_are active j ls) ∙ ap (λ (c : Course). map fared_at c.seats) (sym e ∙ s.to_come);
       }
 
   -- After 96 bits all is sent.
@@ -110,7 +106,7 @@ module _ {first : List Lane} {old : List ℕ} {ls : List Lane} {active : Bool} {
 
   -- one bit more
   module _ (h : j < most_bits) (w : ℕ) (e : Some w ≡ asked_by active (asked (seats_at active j ls)))
-      (ls' : List Lane) (then : seats_at (not active) (j + 1) ls' ≡ map (heard (j + 1) (on_line active w)) (seats_at active j ls)) where
+      (ls' : List Sender) (then : seats_at (not active) (j + 1) ls' ≡ map (heard (j + 1) (on_line active w)) (seats_at active j ls)) where
     goes_on : left_of ls active j ≡ bit_then w (left_of ls' (not active) (j + 1))
     goes_on =
         let seats : List Seat = seats_at active j ls in

@@ -1,10 +1,11 @@
-// What the stations of a row bring to a round: a lane for each. A stored length past 11 counts as 11.
+// What the stations of a row bring to a round: a place with its bytes for each. A stored length past 11 counts as 11.
 ghost use Rattle.std.specs.Prelude.{◌-◌, ◌≤◌, ◌≡◌, ◌++◌, false, length, map, replicate, take};
 ghost use Rattle.checkbyte.specs.Register.{with_check};
 ghost use Rattle.bench.specs.Stations.{most_stations, most_stored};
 ghost use Rattle.bench_line.specs.Lanes.{seat_at, seats_at};
 ghost use Rattle.bench_line.specs.Entries.{Holders, place_of};
 
+use crate::sender::Sender;
 use bench::{MOST_SENT, MOST_STATIONS, MOST_STORED, Station};
 use bench_lane::{BITS_OF_BYTE, Lane};
 
@@ -28,9 +29,9 @@ fn frame_of(message: &[u8]) -> [u8; MOST_SENT]
     frame
 }
 
-// The lane of a station as a round begins.
-#[tactic(auto, using(crate::specs::EntryLaws::lane_empty, crate::specs::EntryLaws::lane_holder))]
-fn lane_of(station: &Station) -> Lane
+// The place of a station as a round begins.
+#[tactic(auto, using(crate::specs::EntryLaws::sender_empty, crate::specs::EntryLaws::sender_holder))]
+fn sender_of(station: &Station) -> Sender
     ensures { seat_at false 0 result ≡ place_of station.now }
 {
     let message = &station.bytes[..(station.len as usize).min(MOST_STORED)];
@@ -39,29 +40,35 @@ fn lane_of(station: &Station) -> Lane
     } else {
         (message.len() + 1) * BITS_OF_BYTE
     };
-    Lane {
+    let lane = Lane {
         count,
-        frame: frame_of(message),
         clock: station.clock,
         lost: None,
+    };
+    Sender {
+        lane,
+        frame: frame_of(message),
     }
 }
 
-// The lanes of the stations of a row. The lanes past its end have nothing to send.
+// The places of the stations of a row. Those past its end have nothing to send.
 #[tactic(auto, using(crate::specs::LoopLaws::map_one))]
-pub(crate) fn lanes(row: &[Station]) -> [Lane; MOST_STATIONS]
+pub(crate) fn senders(row: &[Station]) -> [Sender; MOST_STATIONS]
     requires { length row.now ≤ most_stations }
     ensures { seats_at false 0 (take (length row.now) result) ≡ map place_of row.now }
 {
-    let none = Lane {
+    let lane = Lane {
         count: 0,
-        frame: [0; MOST_SENT],
         clock: symbol::nominal(),
         lost: None,
     };
-    let mut lanes = [none; MOST_STATIONS];
+    let none = Sender {
+        lane,
+        frame: [0; MOST_SENT],
+    };
+    let mut senders = [none; MOST_STATIONS];
     for (i, station) in row.iter().enumerate() {
-        lanes[i] = lane_of(station);
+        senders[i] = sender_of(station);
     }
-    lanes
+    senders
 }

@@ -3,32 +3,32 @@ ghost use Rattle.std.specs.Prelude.{◌+◌, ◌<◌, ◌≡◌, map, not};
 ghost use Rattle.bench.specs.Course.{asked, heard, most_bits, on_line};
 ghost use Rattle.bench_line.specs.Lanes.{asked_by, seats_at};
 
-use bench_lane::Lane;
+use crate::sender::Sender;
 use symbol::Symbol;
 use units::Micros;
 
 // What all places ask of the line at bit j, from 0 on.
-pub(crate) fn all_ask(lanes: &[Lane], active: bool, j: usize) -> Option<u32>
-    ensures { result ≡ asked_by active (asked (seats_at active j lanes.now)) }
+pub(crate) fn all_ask(senders: &[Sender], active: bool, j: usize) -> Option<u32>
+    ensures { result ≡ asked_by active (asked (seats_at active j senders.now)) }
 {
     let mut asked = None;
-    for lane in lanes {
-        asked = bench_lane::taken_in(asked, bench_lane::asks(lane, active, j), active);
+    for sender in senders {
+        asked = bench_lane::taken_in(asked, sender.asks(active, j), active);
     }
     asked
 }
 
 // Every place hears bit j. Answers what all of them ask at the bit after it, so that a bit costs one walk over the places.
-pub(crate) fn hear(lanes: &mut [Lane], active: bool, j: usize, one: bool) -> Option<u32>
+pub(crate) fn hear(senders: &mut [Sender], active: bool, j: usize, one: bool) -> Option<u32>
     requires { j < most_bits }
-    ensures hears { seats_at (not active) (j + 1) lanes.new ≡ map (heard (j + 1) one) (seats_at active j lanes.old) }
-    ensures asks { result ≡ asked_by (not active) (asked (seats_at (not active) (j + 1) lanes.new)) }
+    ensures hears { seats_at (not active) (j + 1) senders.new ≡ map (heard (j + 1) one) (seats_at active j senders.old) }
+    ensures asks { result ≡ asked_by (not active) (asked (seats_at (not active) (j + 1) senders.new)) }
 {
     let mut asked = None;
-    for lane in lanes.iter_mut() {
-        let ask = bench_lane::asks(lane, active, j);
-        bench_lane::hear(lane, ask, j + 1, one);
-        let next = bench_lane::asks(lane, !active, j + 1);
+    for sender in senders.iter_mut() {
+        let ask = sender.asks(active, j);
+        bench_lane::hear(&mut sender.lane, ask, j + 1, one);
+        let next = sender.asks(!active, j + 1);
         asked = bench_lane::taken_in(asked, next, !active);
     }
     asked

@@ -13,6 +13,7 @@ use frame::MOST_WORDS;
 mod entries;
 mod fares;
 mod lanes;
+mod sender;
 mod sending;
 
 pub use sending::BEFORE_BITS;
@@ -52,11 +53,11 @@ fn contend_on(at: [Station; MOST_STATIONS], words: &mut [u32]) -> Contended
     ensures { ContendedIn (course_on (map clipped at)) words.old words.new result }
 {
     let places = entries::places(&at);
-    let mut lanes = entries::lanes(&at[..places]);
-    let lanes = &mut lanes[..places];
-    let bits = sending::send_bits(lanes, words);
+    let mut senders = entries::senders(&at[..places]);
+    let senders = &mut senders[..places];
+    let bits = sending::send_bits(senders, words);
     Contended {
         bits,
-        verdicts: fares::verdicts(lanes),
+        verdicts: fares::verdicts(senders),
     }
 }

@@ -4,11 +4,11 @@ use Rattle.bench.specs.Course.{asked}
 use Rattle.bench_line.specs.LoopLaws.{ask_more}
 use Rattle.bench_line.proofs.lanes.all_ask.Goals as goal
 
-pub loop-lane-init : goal.loop-lane-init
+pub loop-sender-init : goal.loop-sender-init
 unfolding asked
-loop-lane-init c = refl
+loop-sender-init c = refl
 
-pub loop-lane-preserved : goal.loop-lane-preserved
-loop-lane-preserved c =
-    ask_more _ _ _ c.loop-lane.lane-index _ c.loop-lane.invariant c.loop-lane-test.true
-    _ c.lane-item.is _ c.asks.ensures _ c.taken_in-asked.ensures
+pub loop-sender-preserved : goal.loop-sender-preserved
+loop-sender-preserved c =
+    ask_more _ _ _ c.loop-sender.sender-index _ c.loop-sender.invariant c.loop-sender-test.true
+    _ c.sender-item.is _ c.asks.ensures _ c.taken_in-asked.ensures

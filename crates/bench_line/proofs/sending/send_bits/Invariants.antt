@@ -6,5 +6,5 @@ use Rattle.bench_line.proofs.sending.send_bits.Given as goal
 
 abbrev pub invariant-loop-j : goal.invariant-loop-j
 invariant-loop-j l =
-    Sending l.initial.lanes l.initial.words l.lanes l.active l.j l.words
-    × (l.asked ≡ asked_by l.active (asked (seats_at l.active l.j l.lanes)))
+    Sending l.initial.senders l.initial.words l.senders l.active l.j l.words
+    × (l.asked ≡ asked_by l.active (asked (seats_at l.active l.j l.senders)))
