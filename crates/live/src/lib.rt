@@ -19,6 +19,7 @@ pub enum Asked {
 }
 
 // A reader that has heard nothing.
+#[tactic(auto, unfolding(crate::specs::Feeding::started, live_held::specs::Held::outside))]
 pub fn start() -> Live
     ensures { result ≡ started }
 {

@@ -50,6 +50,7 @@ fn phase_by(number: u16) -> Phase
 }
 
 // The machine that a reader holds. Its counts are bounded here, since they are places in the kept bytes.
+#[tactic(auto, unfolding(crate::specs::Reader::held_by))]
 pub fn held_by(inside: Inside) -> Machine
     ensures { result ≡ held_by inside }
 {
@@ -64,6 +65,7 @@ pub fn held_by(inside: Inside) -> Machine
 }
 
 // A frame that is being heard: what the machine holds, and the bytes so far.
+#[tactic(auto, unfolding(crate::specs::Held::inside_of))]
 pub(crate) fn inside_of(machine: Machine, kept: [u8; MOST_BYTES]) -> Inside
     ensures { result ≡ inside_of machine kept }
 {
@@ -78,6 +80,7 @@ pub(crate) fn inside_of(machine: Machine, kept: [u8; MOST_BYTES]) -> Inside
 }
 
 // No frame. The kept bytes stay where they are, since the next frame's overwrite them.
+#[tactic(auto, unfolding(crate::specs::Held::outside))]
 pub(crate) fn outside(kept: [u8; MOST_BYTES]) -> Inside
     ensures { result ≡ outside_of kept }
 {

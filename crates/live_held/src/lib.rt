@@ -90,6 +90,7 @@ pub fn begins_anew(live: Live, from: u64, end: bool) -> Live
 }
 
 // After an interval that leaves its frame open.
+#[tactic(auto, unfolding(crate::specs::Reader::goes_on))]
 pub fn goes_on(live: Live, machine: Machine, kept: [u8; MOST_BYTES]) -> Live
     ensures { result ≡ goes_on live machine kept }
 {
