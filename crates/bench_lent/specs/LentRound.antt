@@ -1,10 +1,10 @@
 -- Laws.
 -- A round on a lent row keeps its promise: the row is gathered into a held row, the round is played on the held row, and the held row
 -- is put back.
-use Rattle.std.specs.Prelude.{ℕ, suc, ◌+◌, ◌-◌, ◌≤◌, ◌≡◌, true, false, Result, Ok, Err, eqb, take}
-use Rattle.std.proofs.Math.Path.{refl, ap, ap₂}
+use Rattle.std.specs.Prelude.{ℕ, ◌+◌, ◌-◌, ◌≤◌, ◌≡◌, true, false, Result, Ok, Err, eqb, take}
+use Rattle.std.proofs.Math.Path.{ap, ap₂}
 use Rattle.std.proofs.Common.{sym, subst, ◌∙◌, arith, eq-eqb, length-append}
-use mathlib.Core.List.{List, [], ◌∷◌, ◌++◌, map, append-nil}
+use mathlib.Core.List.{List, ◌++◌, map, append-nil}
 use Rattle.std.proofs.Math.ListN.{length, replicate}
 use Rattle.std.proofs.lemmas.List.{length-map, length-replicate}
 use Rattle.std.proofs.Math.Seq.{take_at}
@@ -25,6 +25,7 @@ use Rattle.bench_round.specs.declared.Played.{Played}
 use Rattle.bench_row.specs.HeldRows.{held_of}
 use Rattle.bench_round.specs.Rounds.{round_number, number_on, Plays, PlayedBy, told_in}
 use Rattle.bench_round.specs.PlayedSettled.{some_number}
+use Rattle.bench_round.specs.Playing.{after_length}
 use Rattle.bench_lent.specs.Padding.{map_append, map_replicate, round_pad, after_pad}
 use Rattle.bench_lent.specs.Restoring.{padded, put_back, put_first}
 use Rattle.bench_lent.specs.Lent.{same_number}
@@ -39,12 +40,6 @@ verdicts_pad fares k e =
     ∙ map_append verdict_of fares (replicate k Idle)
     ∙ ap (λ (r : List Verdict). map verdict_of fares ++ r) (map_replicate verdict_of Idle k)
     ∙ ap (λ (x : ℕ). map verdict_of fares ++ replicate x (verdict_of Idle)) w
-
-after_length : (fares : List Fared) (row : List Station) → length (after_fares fares row) ≡ length row
-unfolding after_fares
-after_length [] row = refl
-after_length (f ∷ fares) [] = refl
-after_length (f ∷ fares) (s ∷ row) = ap suc (after_length fares row)
 
 module _ (row : List Station) (lent : List ℕ) where
   rules : number_on (held_of row) lent ≡ number_of (round lent) row

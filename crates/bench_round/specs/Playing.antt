@@ -23,11 +23,12 @@ use Rattle.bench.specs.Calls.{all_sound, written}
 use Rattle.bench.proofs.RowLaws.{fares_against, row_fares, row_comes}
 use Rattle.bench.specs.RoundStated.{winner_of}
 use Rattle.bench.specs.Promise.{RoundSaid, played}
-use Rattle.loops.specs.Scan.{from, from_same, filled, fill_ahead, fill_more, fill_all, get_d_any}
+use Rattle.std.proofs.lemmas.List.{get_or_default, get_or-set_other, get_or-set_same, ext_get_or}
+use Rattle.std.proofs.Common.{below_more}
 use Rattle.bench_line.specs.declared.Contended.{Contended}
 use Rattle.bench_line.specs.Contending.{course_on, ContendedIn, ContendedBy}
 use Rattle.bench_line.specs.ContendLaws.{sound_sent, course_few}
-use Rattle.bench_round.specs.Rounds.{after_verdict, after_verdicts}
+use Rattle.bench_round.specs.Rounds.{fares_in, after_verdict, after_verdicts}
 
 -- ## The words and the answer
 
@@ -139,56 +140,69 @@ sum_fits ws h = omega (arith, sum_same ws)
 
 -- ## The stations afterwards
 
-shift : {A : Type 0} (g : ℕ → A) (i n : ℕ) → from g (suc i) n ≡ from (λ (p : ℕ). g (suc p)) i n
-unfolding from
-shift g i zero = refl
-shift {A} g i (suc n) = ap (λ (r : List A). g (suc i) ∷ r) (shift g (suc i) n)
+-- As many stations as there were.
+pub after_length : (fares : List Fared) (row : List Station) → length (after_fares fares row) ≡ length row
+unfolding after_fares
+after_length [] row = refl
+after_length (f ∷ fares) [] = refl
+after_length (f ∷ fares) (s ∷ row) = ap suc (after_length fares row)
 
-after_all_law : (fares : List Fared) (row : List Station) → length fares ≡ length row → from (λ (p : ℕ). after_fare (get_or fares p Idle) (get_or row p blank)) 0 (length row) ≡ after_fares fares row
-unfolding from after_fares
-after_all_law [] [] e = refl
-after_all_law [] (s ∷ row) e = absurd (omega arith)
-after_all_law (f ∷ fares) [] e = refl
-after_all_law (f ∷ fares) (s ∷ row) e =
-    ap (λ (r : List Station). after_fare f s ∷ r)
-    (shift (λ (p : ℕ). after_fare (get_or (f ∷ fares) p Idle) (get_or (s ∷ row) p blank)) 0 (length row) ∙ after_all_law fares row (omega arith))
+fares_at : (fares : List Fared) (row : List Station) (k : ℕ) → length fares ≡ length row → k < length row
+    → after_fare (get_or fares k Idle) (get_or row k blank) ≡ get_or (after_fares fares row) k blank
+unfolding after_fares
+fares_at [] row k e h = absurd (omega arith)
+fares_at (f ∷ fares) [] k e h = absurd (omega arith)
+fares_at (f ∷ fares) (s ∷ row) zero e h = refl
+fares_at (f ∷ fares) (s ∷ row) (suc k) e h = fares_at fares row k (omega arith) (omega arith)
+
+told_again : (fares : List Fared) → fares_in (map verdict_of fares) ≡ fares
+told_again [] = refl
+told_again (f ∷ fares) = ap (λ (fs : List Fared). f ∷ fs) (told_again fares)
 
 -- The stations by their verdicts are the stations by how they fared.
-pub after_is : (at : List Station) (fares : List Fared) → length at ≡ most_stations → length fares ≡ most_stations → after_verdicts at (verdicts_of fares) ≡ after_fares fares at
+pub after_is : (at : List Station) (fares : List Fared) → length fares ≡ most_stations → after_verdicts at (verdicts_of fares) ≡ after_fares fares at
 unfolding after_verdicts
-after_is at fares n m =
+after_is at fares n =
     let z : most_stations - length fares ≡ 0 = omega arith in
-    ap (λ (k : ℕ). from (after_verdict at (map verdict_of fares ++ replicate k (verdict_of Idle))) 0 most_stations) z
-    ∙ ap (λ (vs : List Verdict). from (after_verdict at vs) 0 most_stations) (append-nil (map verdict_of fares))
-    ∙ from_same (after_verdict at (map verdict_of fares)) (λ (p : ℕ). after_fare (get_or fares p Idle) (get_or at p blank)) 0 most_stations
-    (λ p lo hi. ap (λ (v : Verdict). after_fare v.fared (get_or at p blank)) (get_or-map verdict_of fares p Idle))
-    ∙ ap (from (λ (p : ℕ). after_fare (get_or fares p Idle) (get_or at p blank)) 0) (sym n)
-    ∙ after_all_law fares at (omega arith)
+    ap (λ (k : ℕ). after_fares (fares_in (map verdict_of fares ++ replicate k (verdict_of Idle))) at) z
+    ∙ ap (λ (vs : List Verdict). after_fares (fares_in vs) at) (append-nil (map verdict_of fares))
+    ∙ ap (λ (fs : List Fared). after_fares fs at) (told_again fares)
 
 -- the stations while they are seen to, at place i
 pub record Settling (at : List Station) (verdicts : List Verdict) (now : List Station) (i : ℕ) : Type 0 where
-  pub inside : i ≤ most_stations
   pub places : length at ≡ most_stations
   pub answers : length verdicts ≡ most_stations
-  pub so_far : now ≡ filled (after_verdict at verdicts) at i
+  pub whole : length now ≡ most_stations
+  pub done : (k : ℕ) → k < i → get_or now k blank ≡ after_verdict at verdicts k
+  pub ahead : (k : ℕ) → i ≤ k → get_or now k blank ≡ get_or at k blank
+
+-- none yet
+pub settle_start : (at : List Station) (verdicts : List Verdict) → length at ≡ most_stations → length verdicts ≡ most_stations → Settling at verdicts at 0
+settle_start at verdicts n m = record { places = n; answers = m; whole = n; done = λ k h. absurd (omega arith); ahead = λ k h. refl }
 
 module _ {at : List Station} {verdicts : List Verdict} {now : List Station} {i : ℕ} (so : Settling at verdicts now i) where
   -- one station more
   pub settle_more : i < most_stations → (d : Station) (e : Verdict) (x : Station) → x ≡ after_fare (get_or verdicts i e).fared (get_or now i d) → Settling at verdicts (set now i x) (i + 1)
   settle_more h d e x p =
-      let own : get_or now i d ≡ get_or at i blank =
-      ap (λ (r : List Station). get_or r i d) so.so_far ∙ fill_ahead (after_verdict at verdicts) at i d (omega (arith, so.places)) ∙ get_d_any at i d blank (omega (arith, so.places)) in
+      let own : get_or now i d ≡ get_or at i blank = get_or_default now i d blank (omega (arith, so.whole)) ∙ so.ahead i (omega arith) in
+      let is : x ≡ after_verdict at verdicts i =
+      p ∙ ap₂ (λ (v : Verdict) (s : Station). after_fare v.fared s) (get_or_default verdicts i e (verdict_of Idle) (omega (arith, so.answers))) own in
       record {
-        inside = omega arith;
         places = so.places;
         answers = so.answers;
-        so_far =
-            ap (λ (r : List Station). set r i x) so.so_far
-            ∙ fill_more (after_verdict at verdicts) at i x x (omega (arith, so.places))
-            (p ∙ ap₂ (λ (v : Verdict) (s : Station). after_fare v.fared s) (get_d_any verdicts i e (verdict_of Idle) (omega (arith, so.answers))) own);
+        whole = length-set now i x ∙ so.whole;
+        done = below_more _ _
+            (λ k l. get_or-set_other now i k x blank (λ z. omega arith) ∙ so.done k l)
+            (get_or-set_same now i x blank (omega (arith, so.whole)) ∙ is);
+        ahead = λ k l. get_or-set_other now i k x blank (λ z. omega arith) ∙ so.ahead k (omega arith);
       }
 
   -- all of them
   pub settle_all : most_stations ≤ i → now ≡ after_verdicts at verdicts
   unfolding after_verdicts
-  settle_all h = so.so_far ∙ fill_all (after_verdict at verdicts) at i most_stations so.places h so.inside
+  settle_all h =
+      ext_get_or blank now (after_fares (fares_in verdicts) at) (so.whole ∙ sym so.places ∙ sym (after_length (fares_in verdicts) at))
+      (λ k l.
+      so.done k (omega (arith, so.whole))
+      ∙ ap (λ (f : Fared). after_fare f (get_or at k blank)) (sym (get_or-map (λ (v : Verdict). v.fared) verdicts k (verdict_of Idle)))
+      ∙ fares_at (fares_in verdicts) at k (length-map verdicts (λ (v : Verdict). v.fared) ∙ so.answers ∙ sym so.places) (omega (arith, so.whole, so.places)))

@@ -40,5 +40,5 @@ module _ (b : HeldRow) (lent : List ℕ) (v : Survey) (e : v ≡ survey_of b.at)
       → (after : HeldRow) → after ≡ record { at = after_verdicts b.at answer.verdicts; count = b.count } → (lent' : List ℕ) → lent' ≡ written (round_of b.at).words lent
       → Plays b lent lent' (record { held = after; answer = answer })
   plays n answer s after f lent' g =
-      let so = ap (after_verdicts b.at) (ap (λ (x : RoundSaid). x.verdicts) s) ∙ after_is b.at (round_of b.at).fares n (fares_length b.at n passed.0) in
+      let so = ap (after_verdicts b.at) (ap (λ (x : RoundSaid). x.verdicts) s) ∙ after_is b.at (round_of b.at).fares (fares_length b.at n passed.0) in
       record { passes = number; says = s; leaves = f ∙ ap (λ (l : List Station). record { at = l; count = b.count }) so; lends = g }

@@ -1,19 +1,19 @@
 -- Machinery.
 -- A round on a row by value: what it answers, the held row after it, and the words that it leaves.
-use Rattle.std.specs.Prelude.{ℕ, ◌≡◌, List, Result, Ok, Err, length, get_or}
+use Rattle.std.specs.Prelude.{ℕ, ◌≡◌, List, Result, Ok, Err, map, length, get_or}
 use Rattle.laws.specs.Rules.{first_rule}
 use Rattle.bench.specs.declared.Station.{Station}
+use Rattle.bench.specs.declared.Fared.{Fared}
 use Rattle.bench.specs.declared.Fared.TheVariants.{Idle}
 use Rattle.bench.specs.declared.Verdict.{Verdict}
 use Rattle.bench.specs.declared.RoundRefusal.{RoundRefusal}
-use Rattle.bench.specs.Stations.{most_stations, blank}
+use Rattle.bench.specs.Stations.{blank}
 use Rattle.bench.specs.Round.{round_of, verdict_of, after_fare, after_fares}
 use Rattle.bench.specs.Calls.{round_rules, written}
 use Rattle.bench.specs.Promise.{RoundTold, told_number, said, played}
 use Rattle.bench_row.specs.declared.HeldRow.{HeldRow}
 use Rattle.bench_row.specs.declared.survey.Survey.{Survey}
 use Rattle.bench_round.specs.declared.Played.{Played}
-use Rattle.loops.specs.Scan.{from}
 use Rattle.bench_row.specs.Surveys.{survey_of}
 
 -- the number of the first rule that turns a round away
@@ -29,13 +29,17 @@ abbrev pub refused_number : Result (Unit {0}) RoundRefusal → ℕ
 refused_number (Ok x) = 0
 refused_number (Err e) = told_number (Err e)
 
--- each station by the verdict at its place
+-- how the places fared, of their verdicts
+abbrev pub fares_in : List Verdict → List Fared
+fares_in verdicts = map (λ (v : Verdict). v.fared) verdicts
+
+-- a station by the verdict at its place
 abbrev pub after_verdict : List Station → List Verdict → ℕ → Station
 after_verdict at verdicts i = after_fare (get_or verdicts i (verdict_of Idle)).fared (get_or at i blank)
 
--- all stations after a round
+-- all stations after a round, by their verdicts
 unfoldable pub after_verdicts : List Station → List Verdict → List Station
-after_verdicts at verdicts = from (after_verdict at verdicts) 0 most_stations
+after_verdicts at verdicts = after_fares (fares_in verdicts) at
 
 -- what a round that is played comes to: its answer, the held row after it, and the words that it leaves
 pub record Plays (b : HeldRow) (lent lent' : List ℕ) (r : Played) : Type 0 where

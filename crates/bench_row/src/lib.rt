@@ -13,6 +13,7 @@ pub use survey::{Survey, bad_size, greater, survey_all};
 
 // A row of up to 32 stations, with blank ones past its end, and how many the row has. Where that is more than 32 the
 // rest of the row is not here: no call is taken on such a row.
+// Kept an array with a count beside it: document 01 has the core by value first, and a library room has no heap.
 #[derive(Clone, Copy)]
 pub struct HeldRow {
     pub at: [Station; MOST_STATIONS],
