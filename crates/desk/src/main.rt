@@ -30,7 +30,7 @@ const LONGEST_NAME: usize = 4096;
 // The system's number for the error that a name is too long.
 const NAME_TOO_LONG: i32 = 36;
 
-// Bytes for the input.
+// Bytes for the input. The three sizes are each held to a law's own number by a contract, so no generic one serves them.
 fn space() -> [u8; ENOUGH]
     ensures { 1 + most_input ≡ length result }
 {

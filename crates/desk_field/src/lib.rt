@@ -6,7 +6,7 @@ ghost use Rattle.std.specs.Prelude.{◌≡◌};
 ghost use Rattle.desk_text.specs.Grammar.{same as same_of};
 ghost use Rattle.desk_field.specs.Widths.{number_of, width_of};
 
-// Whether two texts are the same.
+// Whether two texts are the same. It stays beside `==` as a public call, whose promise is in document 01's words.
 #[tactic(auto, using(crate::proofs::Leaves::same_is_pointwise))]
 pub fn same(a: &[u8], b: &[u8]) -> bool
     ensures { result ≡ same_of a.now b.now }

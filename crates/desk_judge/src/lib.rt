@@ -65,6 +65,7 @@ fn bad_line(s: &[u8]) -> Option<usize>
         let Some(e) = find(t, NEWLINE) else {
             return Some(FIRST_WIDTH_LINE + k);
         };
+        // 16,384 lines with a width stand before it
         let full = k == MOST_WIDTHS;
         if full || iv_line(&t[..e]).is_none() {
             return Some(FIRST_WIDTH_LINE + k);
@@ -85,6 +86,7 @@ fn lay_widths(s: &[u8], lent: &mut [u32]) -> usize
     let mut t = s;
     let mut k = 0;
     while let Some(e) = find(t, NEWLINE) {
+        // every line is good, so that it has a width
         lent[k] = iv_line(&t[..e]).unwrap();
         k += 1;
         t = &t[e + 1..];
