@@ -29,7 +29,7 @@ fn close(machine: Machine) -> Stepped
     }
 }
 
-// What is asked of a part.
+// What is asked of a part: a short name, so that each part below stands on one line.
 fn need(fewest: usize, checked: bool) -> Needed
     ensures { result ≡ needing fewest checked }
 {

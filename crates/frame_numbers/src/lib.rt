@@ -32,7 +32,7 @@ const PLAIN: u32 = 1;
 
 pub const CHECKED: u32 = 2;
 
-// The number of a symbol.
+// The number of a symbol. Numbers are for C alone, so the match stands here, and the enum names none; so it is below.
 pub fn symbol_number(symbol: Symbol) -> u32
     ensures { result ≡ symbol_number symbol }
 {
