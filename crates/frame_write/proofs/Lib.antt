@@ -1,2 +1,3 @@
+mod Laying
 mod Words
 mod Writes

@@ -1,148 +1,106 @@
--- The lent words while a frame is laid into them, part by part.
-use Prim.Native.Nat.{ℕ, ◌+◌, ◌*◌, ◌≤◌, ◌<◌}
-use mathlib.Core.Path.{◌≡◌, refl, sym, ap, ◌∙◌}
-use mathlib.Core.Bool.{false}
-use mathlib.Core.List.{List, [], ◌∷◌, ◌++◌, append_assoc}
-use native.Mathlib.Numerals.{add-one}
-use native.Mathlib.Omega.{arith}
-use lib.ListN.{length, get_or, take, set, length-append}
-use lib.Seq.{sets, length-take-le, take_all, take-suc, length-sets}
-use Rattle.laws.specs.Lent.{sets_then}
+-- The lent words while a frame is laid into them, part by part: the space for each, and what stands there after it.
+use Rattle.std.specs.Prelude.{ℕ, ◌+◌, ◌-◌, ◌<◌, ◌≤◌, ◌≡◌, refl, false, List, [], ◌∷◌, ◌++◌, length, get_or, take, drop, set}
+use Rattle.std.proofs.Common.{subst, sym, ap, ◌∙◌, append_assoc, length-append, length-take-le, arith}
+use Rattle.std.proofs.lemmas.List.{length-drop}
+use borrow.Rule.Slice.PartMut.{put_mid}
 use Rattle.symbol.specs.declared.Clock.{Clock}
 use Rattle.symbol.specs.Sending.{end_width}
-use Rattle.checkbyte.specs.Register.{all_ones, check_from, check_of, with_check}
+use Rattle.checkbyte.specs.Register.{check_of, with_check}
 use Rattle.frame.specs.declared.Response.{Response}
-use Rattle.frame.specs.declared.Response.TheVariants.{Plain, Checked}
 use Rattle.frame.specs.Bits.{bits_of_byte}
 use Rattle.frame.specs.Writing.{bit_widths, byte_widths, response_widths, frame_words}
-use Rattle.frame.proofs.WidthLaws.{byte_widths_one, eight_widths, frame_words_are, byte_widths_length, byte_widths_append, byte_widths_more, with_check_length, response_words, response_widths_length, frame_words_length}
+use Rattle.frame.proofs.WidthLaws.{byte_widths_none, byte_widths_one, eight_widths, frame_words_are, byte_widths_length, byte_widths_append, byte_widths_more}
+use Rattle.frame_write.specs.Laid.{Fits, Lays}
+use Rattle.frame_write.proofs.Laying.{long, one_more, space_after, laid_after}
 
--- The words of a byte are eight.
-pub eight : (c : Clock) (b : ℕ) (ws : List ℕ) → ws ≡ bit_widths c false (bits_of_byte b) → length ws ≡ 8
-eight c b ws e = ap length (e ∙ eight_widths c b)
+-- Eight words have space where those of a byte do.
+pub eight_fit : (c : Clock) (b : ℕ) (l : List ℕ) → Fits (bit_widths c false (bits_of_byte b)) l → 8 ≤ length l
+eight_fit c b l h = omega (arith, ap length (eight_widths c b))
 
--- One word more.
-word_more : (ws l : List ℕ) (at i : ℕ) → i < length ws
-    → set (sets l at (take i ws)) (at + i) (get_or ws i 0) ≡ sets l at (take (i + 1) ws)
-word_more ws l at i h =
-    let n : at + i ≡ at + length (take i ws) = omega (arith, length-take-le i ws (omega arith)) in
-    ap (λ (k : ℕ). set (sets l at (take i ws)) k (get_or ws i 0)) n
-    ∙ sets_then l at (take i ws) (get_or ws i 0 ∷ [])
-    ∙ ap (sets l at) (sym (ap (λ (k : ℕ). take k ws) (add-one i) ∙ take-suc ws i 0 h))
-
--- The same, with all that holds while the words of a byte are laid.
-pub word_next : (ws l so_far : List ℕ) (at i : ℕ) → i < 8 → length ws ≡ 8 → so_far ≡ sets l at (take i ws)
-    → (i + 1 ≤ 8) × (length (set so_far (at + i) (get_or ws i 0)) ≡ length l) × (set so_far (at + i) (get_or ws i 0) ≡ sets l at (take (i + 1) ws)) × (length ws ≡ 8)
-word_next ws l so_far at i h n e =
-    let new : set so_far (at + i) (get_or ws i 0) ≡ sets l at (take (i + 1) ws) =
-    ap (λ (x : List ℕ). set x (at + i) (get_or ws i 0)) e ∙ word_more ws l at i (omega arith) in
-    (omega arith, ap length new ∙ length-sets l at (take (i + 1) ws), new, n)
+-- No byte has been laid yet.
+pub none_laid : (c : Clock) (l : List ℕ) → Lays (byte_widths c []) l l 0
+none_laid c l = rw (byte_widths_none c) (record { laid = refl; counted = refl })
 
 -- One byte more.
-pub byte_more : (c : Clock) (bs l : List ℕ) (at i : ℕ) → i < length bs
-    → sets (sets l at (byte_widths c (take i bs))) (at + 8 * i) (bit_widths c false (bits_of_byte (get_or bs i 0)))
-    ≡ sets l at (byte_widths c (take (i + 1) bs))
-byte_more c bs l at i h =
-    let n : at + 8 * i ≡ at + length (byte_widths c (take i bs)) =
-    omega (arith, byte_widths_length c (take i bs), length-take-le i bs (omega arith)) in
-    let new : List ℕ = bit_widths c false (bits_of_byte (get_or bs i 0)) in
-    ap (λ (k : ℕ). sets (sets l at (byte_widths c (take i bs))) k new) n
-    ∙ sets_then l at (byte_widths c (take i bs)) new
-    ∙ ap (λ (ws : List ℕ). sets l at ws) (sym (byte_widths_more c bs i h))
+module _ (c : Clock) (bs : List ℕ) (i : ℕ) {l m : List ℕ} {n : ℕ} (laid : Lays (byte_widths c (take i bs)) l m n) (h : i < length bs) (enough : Fits (byte_widths c bs) l) where
+  more : Fits (byte_widths c (take i bs) ++ bit_widths c false (bits_of_byte (get_or bs i 0))) l
+  more = rw (← byte_widths_more c bs i h) (omega (arith, byte_widths_length c (take (i + 1) bs), byte_widths_length c bs, length-take-le (i + 1) bs (omega arith)))
 
--- Every byte.
-pub byte_all : (c : Clock) (bs l : List ℕ) (at i : ℕ) → length bs ≤ i → sets l at (byte_widths c (take i bs)) ≡ sets l at (byte_widths c bs)
-byte_all c bs l at i h = ap (λ (rs : List ℕ). sets l at (byte_widths c rs)) (take_all i bs h)
+  pub byte_space : Fits (bit_widths c false (bits_of_byte (get_or bs i 0))) (take (length m - n) (drop n m))
+  byte_space = space_after laid _ more
 
--- Bytes, and one more after them.
-pub check_laid : (c : Clock) (check : ℕ) (bs l : List ℕ) (at : ℕ)
-    → sets (sets l at (byte_widths c bs)) (at + 8 * length bs) (bit_widths c false (bits_of_byte check))
-    ≡ sets l at (byte_widths c (bs ++ (check ∷ [])))
-check_laid c check bs l at =
-    let n : at + 8 * length bs ≡ at + length (byte_widths c bs) = omega (arith, byte_widths_length c bs) in
-    let last : List ℕ = bit_widths c false (bits_of_byte check) in
-    ap (λ (k : ℕ). sets (sets l at (byte_widths c bs)) k last) n
-    ∙ sets_then l at (byte_widths c bs) last
-    ∙ ap (λ (ws : List ℕ). sets l at ws) (ap (λ (x : List ℕ). byte_widths c bs ++ x) (sym (byte_widths_one c check)) ∙ sym (byte_widths_append c bs (check ∷ [])))
+  pub byte_laid : {part : List ℕ} {k : ℕ} → Lays (bit_widths c false (bits_of_byte (get_or bs i 0))) (take (length m - n) (drop n m)) part k
+      → Lays (byte_widths c (take (i + 1) bs)) l (put_mid n (length m - n) m part) (n + k)
+  byte_laid part = rw (byte_widths_more c bs i h) (laid_after laid _ more part)
 
--- Where the register starts at all ones, that one is their check byte.
-pub afresh : (c : Clock) (bs l : List ℕ) (at : ℕ)
-    → sets l at (byte_widths c (bs ++ (check_from all_ones bs ∷ []))) ≡ sets l at (byte_widths c (with_check bs))
-unfolding check_of
-afresh c bs l at = refl
+-- Bytes, and after them their check byte.
+module _ (c : Clock) (bs l : List ℕ) (check : ℕ) (enough : Fits (byte_widths c (bs ++ (check ∷ []))) l) where
+  both : byte_widths c (bs ++ (check ∷ [])) ≡ byte_widths c bs ++ bit_widths c false (bits_of_byte check)
+  both = byte_widths_append c bs (check ∷ []) ∙ ap (λ (ws : List ℕ). byte_widths c bs ++ ws) (byte_widths_one c check)
 
--- A response: its EOD and normalization bit, and then its bytes.
-pub response_laid : (l : List ℕ) (at first mark : ℕ) (ws : List ℕ)
-    → sets (sets l at (first ∷ mark ∷ [])) (at + 2) ws ≡ sets l at (first ∷ mark ∷ ws)
-response_laid l at first mark ws = sets_then l at (first ∷ mark ∷ []) ws
+  pub bytes_space : Fits (byte_widths c bs) l
+  bytes_space = omega (arith, ap length both, length-append (byte_widths c bs) (bit_widths c false (bits_of_byte check)))
 
--- The words that a response asks for, by its kind: those before its bytes, and those of its bytes after them.
-module _ (c : Clock) (kind : Response) (rs l : List ℕ) (at : ℕ) (enough : at + length (response_widths c kind rs) ≤ length l) where
-  two_long : (first second : ℕ) (ws : List ℕ) → ws ≡ sets l at (first ∷ second ∷ []) → length ws ≡ length l
-  two_long first second ws e = ap length e ∙ length-sets l at (first ∷ second ∷ [])
+  module _ {m : List ℕ} {n : ℕ} (laid : Lays (byte_widths c bs) l m n) where
+    pub check_space : Fits (bit_widths c false (bits_of_byte check)) (take (length m - n) (drop n m))
+    check_space = space_after laid _ (rw (← both) enough)
 
-  words_of : (k : Response) → kind ≡ k → length (response_widths c kind rs) ≡ response_words k (length rs)
-  words_of k e = response_widths_length c kind rs ∙ ap (λ (x : Response). response_words x (length rs)) e
+    pub check_laid : {part : List ℕ} {k : ℕ} → Lays (bit_widths c false (bits_of_byte check)) (take (length m - n) (drop n m)) part k
+        → Lays (byte_widths c (bs ++ (check ∷ []))) l (put_mid n (length m - n) m part) (n + k)
+    check_laid part = rw both (laid_after laid _ (rw (← both) enough) part)
 
-  pub plain_room : kind ≡ Plain → at + 2 ≤ length l
-  plain_room e = omega (arith, words_of Plain e)
+-- ## A frame: the opening and the SOF, the main part, the response, the closing end
 
-  pub plain_after : kind ≡ Plain → (next first second : ℕ) (ws : List ℕ) → next ≡ at + 2 → ws ≡ sets l at (first ∷ second ∷ [])
-      → next + 8 * length rs ≤ length ws
-  plain_after e next first second ws n h = omega (arith, words_of Plain e, two_long first second ws h)
+-- Two words, copied to the front.
+pub two_laid : (a b : ℕ) {copied l : List ℕ} → copied ≡ a ∷ b ∷ [] → Lays (a ∷ b ∷ []) l (copied ++ drop 2 l) 2
+two_laid a b {l} e = record { laid = ap (λ (ws : List ℕ). ws ++ drop 2 l) e; counted = refl }
 
-  pub checked_room : kind ≡ Checked → at + 2 ≤ length l
-  checked_room e = omega (arith, words_of Checked e)
+module _ (c : Clock) (main : List ℕ) (kind : Response) (rs l : List ℕ) (enough : Fits (frame_words c main kind rs) l) where
+  abbrev head : List ℕ
+  head = end_width.0 ∷ c.sof.0 ∷ []
 
-  pub checked_after : kind ≡ Checked → (next first second : ℕ) (ws : List ℕ) → next ≡ at + 2 → ws ≡ sets l at (first ∷ second ∷ [])
-      → next + 8 * (length rs + 1) ≤ length ws
-  checked_after e next first second ws n h = omega (arith, words_of Checked e, two_long first second ws h)
+  abbrev body : List ℕ
+  body = byte_widths c (with_check main)
 
--- ## A frame, while its parts are laid: the space for each, and the whole of them
+  abbrev reply : List ℕ
+  reply = response_widths c kind rs
 
-module _ (c : Clock) (main : List ℕ) (kind : Response) (rs l : List ℕ) (enough : length (frame_words c main kind rs) ≤ length l) where
-  -- the opening and the SOF have space
-  pub head_room : 2 ≤ length l
-  head_room = omega (arith, frame_words_length c main kind rs)
+  parts : length head + length body + length reply + 1 ≤ length l
+  parts = omega (arith, ap length (frame_words_are c main kind rs), length-append body (reply ++ (end_width.0 ∷ [])), length-append reply (end_width.0 ∷ []))
 
-  module _ (h : List ℕ) (at : ℕ) (at-main : at ≡ 2) (headed : h ≡ sets l 0 (end_width.0 ∷ c.sof.0 ∷ [])) where
-    head_long : length h ≡ length l
-    head_long = ap length headed ∙ length-sets l 0 (end_width.0 ∷ c.sof.0 ∷ [])
+  pub head_space : 2 ≤ length l
+  head_space = omega (arith, parts)
 
-    -- so has the main part after them
-    pub main_room : at + 8 * (length main + 1) ≤ length h
-    main_room = omega (arith, head_long, frame_words_length c main kind rs)
+  module _ {m : List ℕ} {n : ℕ} (headed : Lays head l m n) where
+    to_body : Fits (head ++ body) l
+    to_body = omega (arith, parts, length-append head body)
 
-    module _ (m : List ℕ) (eod : ℕ) (at_eod : eod ≡ at + 8 * (length main + 1)) (laid : m ≡ sets h at (byte_widths c (main ++ (check_from all_ones main ∷ [])))) where
-      main_long : length m ≡ length l
-      main_long = ap length laid ∙ length-sets h at (byte_widths c (main ++ (check_from all_ones main ∷ []))) ∙ head_long
+    pub main_space : {check : ℕ} → check ≡ check_of main → Fits (byte_widths c (main ++ (check ∷ []))) (take (length m - n) (drop n m))
+    main_space is = rw is (space_after headed body to_body)
 
-      -- and the response after it
-      pub response_room : eod + length (response_widths c kind rs) ≤ length m
-      response_room = omega (arith, main_long, frame_words_length c main kind rs, response_widths_length c kind rs)
+    pub main_laid : {check : ℕ} → check ≡ check_of main → {part : List ℕ} {k : ℕ}
+        → Lays (byte_widths c (main ++ (check ∷ []))) (take (length m - n) (drop n m)) part k → Lays (head ++ body) l (put_mid n (length m - n) m part) (n + k)
+    main_laid is {part} {k} laid =
+        laid_after headed body to_body (subst (λ (b : ℕ). Lays (byte_widths c (main ++ (b ∷ []))) (take (length m - n) (drop n m)) part k) is laid)
 
-      module _ (n : List ℕ) (closing : ℕ) (at-closing : closing ≡ eod + length (response_widths c kind rs)) (answered : n ≡ sets m eod (response_widths c kind rs)) where
-        response_long : length n ≡ length l
-        response_long = ap length answered ∙ length-sets m eod (response_widths c kind rs) ∙ main_long
+  module _ {m : List ℕ} {n : ℕ} (laid : Lays (head ++ body) l m n) where
+    to_reply : Fits ((head ++ body) ++ reply) l
+    to_reply = omega (arith, parts, length-append (head ++ body) reply, length-append head body)
 
-        -- and the closing end after that
-        pub closing_room : closing < length n
-        closing_room = omega (arith, response_long, frame_words_length c main kind rs, response_widths_length c kind rs)
+    pub response_space : Fits reply (take (length m - n) (drop n m))
+    response_space = space_after laid reply to_reply
 
-        pub closing_last : closing + 1 ≡ length (frame_words c main kind rs)
-        closing_last = omega (arith, frame_words_length c main kind rs, response_widths_length c kind rs)
+    pub response_laid : {part : List ℕ} {k : ℕ} → Lays reply (take (length m - n) (drop n m)) part k → Lays ((head ++ body) ++ reply) l (put_mid n (length m - n) m part) (n + k)
+    response_laid part = laid_after laid reply to_reply part
 
-        -- the whole frame
-        pub frame_laid : set n closing end_width.0 ≡ sets l 0 (frame_words c main kind rs)
-        frame_laid =
-            let body : List ℕ = byte_widths c (with_check main) in
-            let reply : List ℕ = response_widths c kind rs in
-            let head : List ℕ = end_width.0 ∷ c.sof.0 ∷ [] in
-            let close : List ℕ = end_width.0 ∷ [] in
-            let count : length body ≡ 8 * (length main + 1) = byte_widths_length c (with_check main) ∙ ap (λ (k : ℕ). 8 * k) (with_check_length main) in
-            let at-reply : eod ≡ 0 + length (head ++ body) = omega (arith, length-append head body) in
-            let at-close : closing ≡ 0 + length ((head ++ body) ++ reply) = omega (arith, length-append (head ++ body) reply, length-append head body) in
-            let up-to-body : m ≡ sets l 0 (head ++ body) = laid ∙ rw (headed, at-main) (afresh c main (sets l 0 head) 2 ∙ sets_then l 0 head body) in
-            let up-to-reply : n ≡ sets l 0 ((head ++ body) ++ reply) = answered ∙ rw (up-to-body, at-reply) (sets_then l 0 (head ++ body) reply) in
-            rw (up-to-reply, at-close) (sets_then l 0 ((head ++ body) ++ reply) close)
-            ∙ ap (sets l 0) (append_assoc (head ++ body) reply close ∙ sym (frame_words_are c main kind rs))
+  module _ {m : List ℕ} {n : ℕ} (laid : Lays ((head ++ body) ++ reply) l m n) where
+    so_long : length ((head ++ body) ++ reply) + 1 ≤ length l
+    so_long = omega (arith, parts, length-append (head ++ body) reply, length-append head body)
+
+    pub closing_space : n < length m
+    closing_space = omega (arith, so_long, laid.counted, long laid, length-drop (length ((head ++ body) ++ reply)) l)
+
+    pub frame_laid : Lays (frame_words c main kind rs) l (set m n end_width.0) (n + 1)
+    frame_laid =
+        subst (λ (ws : List ℕ). Lays ws l (set m n end_width.0) (n + 1))
+        (append_assoc (head ++ body) reply (end_width.0 ∷ []) ∙ sym (frame_words_are c main kind rs)) (one_more laid end_width.0 (omega (arith, so_long)))

@@ -1,41 +1,33 @@
 -- `frame_write::put_frame` meets its contract: the parts of the frame, laid one after the other.
-use mathlib.Core.Path.{◌∙◌}
-use native.Mathlib.Omega.{arith}
-use Rattle.frame_write.proofs.Words.{head_room, main_room, response_room, closing_room, closing_last, frame_laid}
+use Rattle.symbol.specs.Sending.{end_width}
+use Rattle.frame_write.proofs.Words.{two_laid, main_space, main_laid, response_space, response_laid, closing_space, frame_laid}
 use Rattle.frame_write.proofs.put_frame.Goals as goal
-
-pub put_two-first-requires : goal.put_two-first-requires
-put_two-first-requires c =
-    head_room c.args.clock c.args.main.now c.args.kind c.args.response.now c.args.lent.now c.requires
 
 pub put_checked-eod-requires : goal.put_checked-eod-requires
 put_checked-eod-requires c =
-    let two = c.put_two-first.ensures in
-    main_room c.args.clock c.args.main.now c.args.kind c.args.response.now c.args.lent.now c.requires _ _ two.value two.lent_after
+    let a = c.args in
+    let head = two_laid end_width.0 a.clock.sof.0 c.copy_from_slice.ensures.after in
+    main_space a.clock a.main.now a.kind a.response.now a.lent.now c.requires head c.check_byte.ensures
 
-pub put_response-closing-requires : goal.put_response-closing-requires
-put_response-closing-requires c =
-    let two = c.put_two-first.ensures in
-    let main = c.put_checked-eod.ensures in
-    response_room c.args.clock c.args.main.now c.args.kind c.args.response.now c.args.lent.now c.requires _ _ two.value two.lent_after _ _ main.value main.lent_after
+pub put_response-requires : goal.put_response-requires
+put_response-requires c =
+    let a = c.args in
+    let head = two_laid end_width.0 a.clock.sof.0 c.copy_from_slice.ensures.after in
+    let main = main_laid a.clock a.main.now a.kind a.response.now a.lent.now c.requires head c.check_byte.ensures c.put_checked-eod.ensures in
+    response_space a.clock a.main.now a.kind a.response.now a.lent.now c.requires main
 
-pub put-requires : goal.put-requires
-put-requires c =
-    let two = c.put_two-first.ensures in
-    let main = c.put_checked-eod.ensures in
-    let reply = c.put_response-closing.ensures in
-    closing_room c.args.clock c.args.main.now c.args.kind c.args.response.now c.args.lent.now c.requires _ _ two.value two.lent_after _ _ main.value main.lent_after _ _ reply.value reply.lent_after
-
-pub overflow_add-result : goal.overflow_add-result
-overflow_add-result c =
-    let two = c.put_two-first.ensures in
-    let main = c.put_checked-eod.ensures in
-    let reply = c.put_response-closing.ensures in
-    omega (arith, closing_room c.args.clock c.args.main.now c.args.kind c.args.response.now c.args.lent.now c.requires _ _ two.value two.lent_after _ _ main.value main.lent_after _ _ reply.value reply.lent_after)
+pub bounds-lent-closing : goal.bounds-lent-closing
+bounds-lent-closing c =
+    let a = c.args in
+    let head = two_laid end_width.0 a.clock.sof.0 c.copy_from_slice.ensures.after in
+    let main = main_laid a.clock a.main.now a.kind a.response.now a.lent.now c.requires head c.check_byte.ensures c.put_checked-eod.ensures in
+    let reply = response_laid a.clock a.main.now a.kind a.response.now a.lent.now c.requires main c.put_response.ensures in
+    closing_space a.clock a.main.now a.kind a.response.now a.lent.now c.requires reply
 
 pub returns : goal.returns
 returns c =
-    let two = c.put_two-first.ensures in
-    let main = c.put_checked-eod.ensures in
-    let reply = c.put_response-closing.ensures in
-    record { value = closing_last c.args.clock c.args.main.now c.args.kind c.args.response.now c.args.lent.now c.requires _ _ two.value two.lent_after _ _ main.value main.lent_after _ _ reply.value reply.lent_after; lent_after = c.put.ensures ∙ frame_laid c.args.clock c.args.main.now c.args.kind c.args.response.now c.args.lent.now c.requires _ _ two.value two.lent_after _ _ main.value main.lent_after _ _ reply.value reply.lent_after }
+    let a = c.args in
+    let head = two_laid end_width.0 a.clock.sof.0 c.copy_from_slice.ensures.after in
+    let main = main_laid a.clock a.main.now a.kind a.response.now a.lent.now c.requires head c.check_byte.ensures c.put_checked-eod.ensures in
+    let reply = response_laid a.clock a.main.now a.kind a.response.now a.lent.now c.requires main c.put_response.ensures in
+    frame_laid a.clock a.main.now a.kind a.response.now a.lent.now c.requires reply
