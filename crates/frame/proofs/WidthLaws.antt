@@ -1,11 +1,11 @@
 -- Laws.
 -- The words of a frame: how many they are, how they join, and when a message is turned away.
-use Prim.Native.Nat.{ℕ, suc, ◌+◌, ◌*◌, ◌/◌, ◌≤◌, ◌<◌}
+use Prim.Native.Nat.{ℕ, suc, ◌+◌, ◌*◌, ◌-◌, ◌/◌, ◌≤◌, ◌<◌}
 use Rattle.std.specs.Prelude.{◌≡◌, refl, true, false, ◌||◌, List, [], ◌∷◌, ◌++◌, eqb, leb, get_or, take}
 use Rattle.std.proofs.Common.{ap, ◌∙◌, add-one, arith, length-append, take-suc}
 use Rattle.std.proofs.Math.Dec.{ltb, leb-suc-suc}
 use Rattle.std.proofs.Math.ListN.{length}
-use borrow.Author.Tests.{eq-eqb, ne_eqb, ltb-false}
+use borrow.Author.Tests.{eq-eqb, ne_eqb, lt-ltb, le-ltb, ltb-false}
 use Rattle.laws.specs.Tests.{or_right, ltb_same, neither}
 use Rattle.symbol.specs.declared.Clock.{Clock}
 use Rattle.symbol.specs.Sending.{bit_width, end_width}
@@ -108,6 +108,45 @@ module _ (main : List ℕ) (rs : List ℕ) where
   pub bad_empty : (kind : Response) → length main ≡ 0 → bad_message main kind rs ≡ true
   unfolding bad_message
   bad_empty kind e = rw (eq-eqb (length main) 0 e)
+
+  some : 0 < length main → eqb (length main) 0 ≡ false
+  some h = ne_eqb (length main) 0 (λ e. omega arith)
+
+  -- so is one that leaves no space for its own check byte
+  pub bad_long : (kind : Response) → most_bytes ≤ length main → bad_message main kind rs ≡ true
+  unfolding bad_message
+  bad_long kind h =
+      or_right (eqb (length main) 0) (empty_response kind rs || ltb most_bytes (length (with_check main) + length (response_sent kind rs)))
+      (or_right (empty_response kind rs) (ltb most_bytes (length (with_check main) + length (response_sent kind rs)))
+      (lt-ltb most_bytes (length (with_check main) + length (response_sent kind rs)) (omega (arith, with_check_length main))))
+
+  -- one that does and asks for no response is admitted
+  pub bad_without : 0 < length main → length main < most_bytes → bad_message main Without rs ≡ false
+  unfolding bad_message
+  bad_without p h = rw (some p, le-ltb most_bytes (length (with_check main) + 0) (omega (arith, with_check_length main)))
+
+  -- with a plain response, and with a checked one, it goes by the space that the main part and its check byte leave
+  pub bad_plain : 0 < length main → length main < most_bytes
+      → bad_message main Plain rs ≡ (eqb (length rs) 0 || ltb (most_bytes - 1 - length main) (length rs))
+  unfolding bad_message
+  bad_plain p h =
+      rw (
+        some p,
+        ltb_same most_bytes (length (with_check main) + length rs) (most_bytes - 1 - length main) (length rs)
+            (λ x. omega (arith, with_check_length main)) (λ x. omega (arith, with_check_length main)),
+      )
+
+  -- the same for a checked one, whose own check byte takes space too
+  pub bad_checked : 0 < length main → length main < most_bytes
+      → bad_message main Checked rs ≡ (eqb (length rs) 0 || leb (most_bytes - 1 - length main) (length rs))
+  unfolding bad_message
+  bad_checked p h =
+      rw (
+        some p,
+        ltb_same most_bytes (length (with_check main) + length (with_check rs)) (most_bytes - 1 - length main) (suc (length rs))
+            (λ x. omega (arith, with_check_length main, with_check_length rs)) (λ x. omega (arith, with_check_length main, with_check_length rs)),
+        leb-suc-suc (most_bytes - 1 - length main) (length rs),
+      )
 
   -- so is one that asks for a response without bytes
   pub bad_response : (kind : Response) → empty_response kind rs ≡ true → bad_message main kind rs ≡ true
