@@ -46,7 +46,7 @@ fn hex_digit(d: u8) -> u8
     if d < 10 { b'0' + d } else { b'A' - 10 + d }
 }
 
-// A byte's first hex digit.
+// A byte's first hex digit. It and the second stay two public calls.
 pub fn high(b: u8) -> u8
     ensures { result ≡ hex_digit (b / 16) }
 {

@@ -1,4 +1,5 @@
 // What the fields of a line are printed by. Each function lays its text from a place on and answers the place after it.
+// The bytes and the place stay apart: in one struct, each contract would also have to say that it holds the same reference.
 ghost use Rattle.std.specs.Prelude.{◌+◌, ◌≤◌, length};
 ghost use Rattle.desk_text.specs.Numerals.{decimal, hex};
 ghost use Rattle.desk_report.specs.Laying.{Laid, Space, tabbed, response_end, frame_end, fault_end};
