@@ -1,6 +1,6 @@
 -- Laws.
 -- The calls on a lent row keep their promises: the row is gathered into a held row, the held row is worked on, and put back.
-use Rattle.std.specs.Prelude.{ℕ, zero, suc, ◌-◌, ◌≤◌, ◌<◌, ◌≡◌, refl, false, not, Result, Ok, Err, ltb, length, take, get_or, replicate}
+use Rattle.std.specs.Prelude.{ℕ, zero, suc, ◌-◌, ◌≤◌, ◌<◌, min, ◌≡◌, refl, false, not, Result, Ok, Err, ltb, length, take, get_or, replicate}
 use Rattle.std.proofs.Math.Path.{ap}
 use Rattle.std.proofs.Common.{sym, ◌∙◌, arith, eq-eqb, leb-false, ltb-false}
 use mathlib.Core.List.{List, ◌++◌}
@@ -29,6 +29,10 @@ use Rattle.bench_lent.specs.Restoring.{padded, put_back, put_first}
 -- ## A row that is not turned away for its size
 
 module _ (row : List Station) (few : length row ≤ most_stations) where
+  -- After a call that is taken every station is put back.
+  pub all_back : min (length row) most_stations ≡ length row
+  all_back = omega arith
+
   -- A held row is sound where the row is ..
   pub sound_same : all_sound (held_of row).at ≡ all_sound row
   sound_same = ap all_sound (padded row few) ∙ sound_pad (most_stations - length row) row
@@ -42,6 +46,10 @@ module _ (row : List Station) (few : length row ≤ most_stations) where
 
   row_first : take (length row) (held_of row).at ≡ row
   row_first = ap (take (length row)) (padded row few) ∙ take-append_seam row (replicate (most_stations - length row) blank)
+
+  -- A row comes back as it was gathered.
+  pub row_back : put_back (held_of row) row ≡ row
+  row_back = put_first (held_of row) row row few row_first
 
   -- another station at a place of the row
   put_station : (i : ℕ) → i < length row → (s : Station) → put_back (with_of (held_of row) i s) row ≡ set row i s
@@ -91,6 +99,10 @@ module _ (row : List Station) where
 abbrev pub left_by : List Station → Result HeldRow CallRefusal → List Station
 left_by row (Ok next) = put_back next row
 left_by row (Err e) = row
+
+-- After a call that was turned away every station is as it was, however long the row is.
+pub put_none : (e : CallRefusal) (row : List Station) → left_by row (Err e) ≡ row
+put_none e row = refl
 
 module _ (row : List Station) (b : HeldRow) (g : b ≡ held_of row) where
   -- A call that is turned away answers the number, and leaves the row ..

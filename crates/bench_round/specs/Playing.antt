@@ -2,10 +2,10 @@
 -- A round that passed its tests: what its words, its line time and its verdicts come to, and the stations after it.
 use Rattle.std.specs.Prelude.{ℕ, zero, suc, ◌+◌, ◌-◌, ◌≤◌, ◌<◌, ◌^◌, ◌≡◌, refl, true, take, get_or, sum, replicate}
 use Rattle.std.specs.List.{fold}
-use Rattle.std.proofs.Common.{sym, ap₂, ◌∙◌, arith, length-append, take_at}
+use Rattle.std.proofs.Common.{sym, ap₂, ◌∙◌, arith, length-append, length-take-le, get_or-take, drop-cons, take_at}
 use Rattle.std.proofs.Math.Path.{ap, subst}
 use mathlib.Core.List.{List, [], ◌∷◌, ◌++◌, map, append_assoc, append-nil}
-use Rattle.std.proofs.Math.ListN.{length, drop, set, length-set, get_or-map}
+use Rattle.std.proofs.Math.ListN.{length, drop, drop_of_length-le, set, length-set, get_or-map}
 use Rattle.std.proofs.lemmas.List.{length-map}
 use Rattle.std.proofs.lemmas.List.Edits.{sets}
 use Rattle.std.proofs.Math.Seq.{length-sets}
@@ -136,6 +136,34 @@ sum_same ws = omega (arith, sum_from 0 ws)
 -- A line time fits.
 pub sum_fits : (ws : List ℕ) → sum_of ws ≤ 14438 → sum ws < 2 ^ 32
 sum_fits ws h = omega (arith, sum_same ws)
+
+-- A part of a sum is no more than the sum.
+pub sum_part : (ws : List ℕ) (i : ℕ) → sum_of (drop i ws) ≤ sum_of ws
+unfolding sum_of
+sum_part ws zero = omega arith
+sum_part [] (suc i) = omega arith
+sum_part (w ∷ ws) (suc i) = omega (arith, sum_part ws i)
+
+-- The first n words, summed from the last of them on.
+module _ (ws : List ℕ) (n : ℕ) (h : n ≤ length ws) where
+  -- nothing is summed yet
+  pub sum_start : 0 ≡ sum_of (drop n (take n ws))
+  unfolding sum_of
+  sum_start = ap sum_of (sym (drop_of_length-le (take n ws) {i = n} (omega (arith, length-take-le n ws h))))
+
+  module _ (i v : ℕ) (hi : i ≤ n) (e : v ≡ sum_of (drop i (take n ws))) where
+    -- one word more
+    pub sum_more : 0 < i → v + get_or ws (i - 1) 0 ≡ sum_of (drop (i - 1) (take n ws))
+    unfolding sum_of
+    sum_more lo =
+        let p : i ≡ suc (i - 1) = omega arith in
+        let one : sum_of (drop (i - 1) (take n ws)) ≡ get_or (take n ws) (i - 1) 0 + sum_of (drop (suc (i - 1)) (take n ws)) =
+        ap sum_of (drop-cons (take n ws) (i - 1) 0 (omega (arith, length-take-le n ws h))) in
+        omega (arith, e, one, ap (λ (k : ℕ). sum_of (drop k (take n ws))) p, get_or-take n ws (i - 1) 0 (omega arith))
+
+    -- all words are summed
+    pub sum_all : i ≤ 0 → v ≡ sum_of (take n ws)
+    sum_all z = let p : i ≡ 0 = omega arith in e ∙ ap (λ (k : ℕ). sum_of (drop k (take n ws))) p
 
 -- ## The stations afterwards
 

@@ -1,6 +1,6 @@
 -- Laws.
 -- How the rules of a round decide what it comes to.
-use Rattle.std.specs.Prelude.{ℕ, ◌≤◌, ◌≡◌, refl, true, List, Ok, map, length}
+use Rattle.std.specs.Prelude.{ℕ, ◌≤◌, ◌≡◌, refl, true, List, Ok, Err, map, length}
 use Rattle.std.proofs.Common.{sym, ◌∙◌}
 use Rattle.std.proofs.Math.Path.{ap}
 use Rattle.laws.specs.Tests.{not_below}
@@ -9,15 +9,16 @@ use Rattle.laws.specs.RuleLaws.{none_is}
 use Rattle.frame.specs.Writing.{most_words}
 use Rattle.bench.specs.declared.Station.{Station}
 use Rattle.bench.specs.declared.RoundAnswer.{RoundAnswer}
+use Rattle.bench.specs.declared.RoundRefusal.{RoundRefusal}
 use Rattle.bench.specs.Stations.{most_stations}
 use Rattle.bench.specs.Course.{longest}
 use Rattle.bench.specs.Round.{entry_of, sofs_asked, round_of}
 use Rattle.bench.specs.Calls.{round, all_sound, rules_on, written}
-use Rattle.bench.specs.Promise.{RoundSaid, said, played}
+use Rattle.bench.specs.Promise.{told_number, RoundSaid, said, played, turned_away}
 use Rattle.bench_row.specs.declared.HeldRow.{HeldRow}
 use Rattle.bench_row.specs.declared.survey.Survey.{Survey}
 use Rattle.bench_row.specs.Surveys.{survey_of}
-use Rattle.bench_round.specs.Rounds.{round_number, number_on, after_verdicts, Plays}
+use Rattle.bench_round.specs.Rounds.{round_number, number_on, after_verdicts, Plays, PlayedBy, told_in, held_after}
 use Rattle.bench_round.specs.Playing.{fares_length, after_is}
 
 -- No rule turned the round away, as they are judged of what is asked of the row.
@@ -42,3 +43,10 @@ module _ (b : HeldRow) (lent : List ℕ) (v : Survey) (e : v ≡ survey_of b.at)
   plays n answer s after f lent' g =
       let so = ap (after_verdicts b.at) (ap (λ (x : RoundSaid). x.verdicts) s) ∙ after_is b.at (round_of b.at).fares n (fares_length b.at n passed.0) in
       record { passes = number; says = s; leaves = f ∙ ap (λ (l : List Station). record { at = l; count = b.count }) so; lends = g }
+
+-- A round that a rule turns away says so and nothing else, and the held row and the words are as they were.
+pub turns_away : (b : HeldRow) (lent : List ℕ) (v : Survey) → v ≡ survey_of b.at → (why : RoundRefusal) → told_number (Err why) ≡ round_number b.count v (length lent)
+    → PlayedBy b lent lent (Err why) × (held_after b (Err why) ≡ b) × (said (told_in (Err why)) ≡ turned_away (number_on b lent))
+turns_away b lent v e why p =
+    let n : told_number (Err why) ≡ number_on b lent = p ∙ ap (λ (x : Survey). round_number b.count x (length lent)) e in
+    ((n, refl), refl, ap turned_away n)

@@ -1,6 +1,8 @@
 -- Laws.
 -- What the test of a refusal says: a refusal is the answer, and changes nothing; otherwise the interval is taken.
 use Rattle.std.specs.Prelude.{ℕ, ◌≡◌, refl, Bool, true, false, cond, not, List, eqb, ltb, length, Result, Ok, Err, MatchResult}
+use Rattle.std.proofs.Common.{◌∙◌, eq-eqb, ne_eqb}
+use Rattle.std.proofs.lemmas.Result.{MatchResult-at_ok, MatchResult-at_err}
 use Rattle.laws.specs.Rules.{first_rule}
 use Rattle.frame.specs.Faults.{most_bytes}
 use Rattle.live_held.specs.declared.Live.{Live}
@@ -8,6 +10,8 @@ use Rattle.live_answer.specs.declared.Heard.{Heard}
 use Rattle.live_answer.specs.declared.HearRefusal.{HearRefusal}
 use Rattle.live_answer.specs.declared.HearRefusal.TheVariants.{PastPlaces, FewLentBytes}
 use Rattle.live_answer.specs.Answered.{is_refusal}
+use Rattle.live_held.specs.Held.{no_frame}
+use Rattle.live_taken.specs.Taken.{waiting, fed_by, step_at, ends_at, laid_by}
 use Rattle.live.specs.Promise.{refusal, hear_rules, says_full}
 use Rattle.live.specs.Feeding.{taken_of, refused_by, refusal_of, fed_of, laid_of, lent_of}
 
@@ -42,3 +46,23 @@ hear_by v w lent = go (eqb v.places.full 0) (ltb (length lent) most_bytes)
     go false y = (refl, refl)
     go true true = (refl, refl)
     go true false = (refl, refl)
+
+module _ (v : Live) (w : ℕ) (lent : List ℕ) where
+  -- Each refusal is the answer, and the reader and the lent bytes are as they were.
+  pub refused_so : (why : HearRefusal) → refusal_of v (length lent) ≡ Err why → (fed_of v w (length lent) ≡ refused_by v why) × (lent_of v w lent ≡ lent)
+  refused_so why e = MatchResult-at_err _ _ why e (hear_by v w lent)
+
+  -- Where there is none the interval is taken: before a frame ..
+  pub taken_outside : refusal_of v (length lent) ≡ Ok tt → v.inside.phase ≡ no_frame → (fed_of v w (length lent) ≡ waiting v w) × (lent_of v w lent ≡ lent)
+  unfolding taken_of laid_of
+  taken_outside e p =
+      let r = MatchResult-at_ok _ _ tt e (hear_by v w lent) in
+      (r.0 ∙ rw (eq-eqb v.inside.phase no_frame p), r.1 ∙ rw (eq-eqb v.inside.phase no_frame p))
+
+  -- .. or in one.
+  pub taken_inside : refusal_of v (length lent) ≡ Ok tt → ¬ (v.inside.phase ≡ no_frame)
+      → (fed_of v w (length lent) ≡ fed_by (step_at v w).event v (step_at v w).machine (ends_at v w)) × (lent_of v w lent ≡ laid_by (step_at v w).event v.inside lent)
+  unfolding taken_of laid_of
+  taken_inside e p =
+      let r = MatchResult-at_ok _ _ tt e (hear_by v w lent) in
+      (r.0 ∙ rw (ne_eqb v.inside.phase no_frame p), r.1 ∙ rw (ne_eqb v.inside.phase no_frame p))
