@@ -109,14 +109,6 @@ pub gather_length : (row : List Station) (i : ℕ) → length (gathered row i) �
 unfolding held_of
 gather_length row i = omega (arith, length-take most_stations (take i row ++ replicate most_stations blank), length-append (take i row) (replicate most_stations blank), length-replicate most_stations blank)
 
--- a row of at most 32, and what is blank past it
-pub padded : (row : List Station) → length row ≤ most_stations → (held_of row).at ≡ row ++ replicate (most_stations - length row) blank
-unfolding held_of
-padded row h =
-    let k : ℕ = most_stations - length row in
-    enough row most_stations most_stations (most_stations - length row) (omega arith) (omega arith)
-    ∙ take_all most_stations (row ++ replicate (most_stations - length row) blank) (omega (arith, length-append row (replicate k blank), length-replicate k blank))
-
 -- ## Putting back
 
 -- the row with the stations of a held row in its places, as many as that keeps
