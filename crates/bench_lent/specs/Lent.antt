@@ -1,6 +1,7 @@
 -- Laws.
 -- The calls on a lent row keep their promises: the row is gathered into a held row, the held row is worked on, and put back.
 use Rattle.std.specs.Prelude.{ℕ, zero, suc, ◌-◌, ◌≤◌, ◌<◌, min, ◌≡◌, refl, false, not, Result, Ok, Err, ltb, length, take, get_or, replicate}
+use Rattle.std.proofs.lemmas.List.{length-set}
 use Rattle.std.proofs.Math.Path.{ap}
 use Rattle.std.proofs.Common.{sym, ◌∙◌, arith, eq-eqb, leb-false, ltb-false}
 use mathlib.Core.List.{List, ◌++◌}
@@ -49,13 +50,13 @@ module _ (row : List Station) (few : length row ≤ most_stations) where
 
   -- A row comes back as it was gathered.
   pub row_back : put_back (held_of row) row ≡ row
-  row_back = put_first (held_of row) row row few row_first
+  row_back = put_first (held_of row) row row few refl row_first
 
   -- another station at a place of the row
   put_station : (i : ℕ) → i < length row → (s : Station) → put_back (with_of (held_of row) i s) row ≡ set row i s
   unfolding with_of
   put_station i h s =
-      put_first (with_of (held_of row) i s) row (set row i s) few
+      put_first (with_of (held_of row) i s) row (set row i s) few (length-set row i s)
       (take-set-lt (length row) (held_of row).at i s h ∙ ap (λ (l : List Station). set l i s) row_first)
 
 -- A row that 38 does not turn away has at most 32 stations.

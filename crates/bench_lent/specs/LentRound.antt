@@ -69,7 +69,7 @@ module _ (row : List Station) (lent : List ℕ) where
     put_round b e =
         let so : b.at ≡ after_fares (round_of row).fares row ++ replicate (most_stations - length row) blank =
         e ∙ ap₂ (λ (r : Round) (l : List Station). after_fares r.fares l) round_same (padded row few) ∙ after_pad (most_stations - length row) (round_of row).fares row fares_length in
-        put_first b row (after_fares (round_of row).fares row) few
+        put_first b row (after_fares (round_of row).fares row) few (after_length (round_of row).fares row)
         (ap (take (length row)) so ∙ take_at (after_fares (round_of row).fares row) (replicate (most_stations - length row) blank) (length row) (after_length (round_of row).fares row))
 
   -- the lent row after a round: one that is turned away stores nothing

@@ -111,26 +111,36 @@ gather_length row i = omega (arith, length-take most_stations (take i row ++ rep
 
 -- ## Putting back
 
+-- the stations of a held row that go back into a row: as many as it keeps
+abbrev kept_of : HeldRow → List Station → List Station
+kept_of b row = take (min (length row) most_stations) b.at
+
 -- the row with the stations of a held row in its places, as many as that keeps
 unfoldable pub put_back : HeldRow → List Station → List Station
-put_back b row = take (min (length row) most_stations) b.at ++ drop (min (length row) most_stations) row
+put_back b row = kept_of b row ++ drop (length (kept_of b row)) row
+
+-- A held row has 32 places, so that these are as many as the row has, or 32.
+pub put_whole : (b : HeldRow) (row : List Station) → length b.at ≡ most_stations
+    → take (min (length row) most_stations) b.at ++ drop (min (length row) most_stations) row ≡ put_back b row
+unfolding put_back
+put_whole b row n =
+    ap (λ (k : ℕ). kept_of b row ++ drop k row) (sym (length-take-le (min (length row) most_stations) b.at (omega arith)))
 
 -- A held row whose first places are a row of the same length is put back as that row.
-pub put_first : (b : HeldRow) (row new : List Station) → length row ≤ most_stations → take (length row) b.at ≡ new → put_back b row ≡ new
+pub put_first : (b : HeldRow) (row new : List Station) → length row ≤ most_stations → length new ≡ length row → take (length row) b.at ≡ new → put_back b row ≡ new
 unfolding put_back
-put_first b row new few e =
+put_first b row new few same e =
     let n : min (length row) most_stations ≡ length row = omega arith in
-    ap (λ (m : ℕ). take m b.at ++ drop m row) n
-    ∙ ap (λ (l : List Station). take (length row) b.at ++ l) (drop_of_length-le row {i = length row} (omega arith))
-    ∙ append-nil (take (length row) b.at) ∙ e
+    ap (λ (l : List Station). l ++ drop (length l) row) (ap (λ (m : ℕ). take m b.at) n ∙ e)
+    ∙ ap (λ (l : List Station). new ++ l) (drop_of_length-le row {i = length new} (omega arith))
+    ∙ append-nil new
 
 -- No more are put back than there are ..
 pub put_few : (n : ℕ) → min n most_stations ≤ n
 put_few n = omega arith
 
 -- .. and there are as many stations as there were.
-pub put_length : (b : HeldRow) (row : List Station) → length b.at ≡ most_stations → length (put_back b row) ≡ length row
+pub put_length : (b : HeldRow) (row : List Station) → length (put_back b row) ≡ length row
 unfolding put_back
-put_length b row n =
-    let k : ℕ = min (length row) most_stations in
-    omega (arith, length-append (take k b.at) (drop k row), length-take-le k b.at (omega arith), length-drop k row)
+put_length b row =
+    omega (arith, length-append (kept_of b row) (drop (length (kept_of b row)) row), length-take (min (length row) most_stations) b.at, length-drop (length (kept_of b row)) row)

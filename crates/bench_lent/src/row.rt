@@ -21,7 +21,7 @@ pub fn gathered(row: &[Station]) -> HeldRow
 }
 
 // The row with the stations of a held row in its places, as many as that keeps.
-#[tactic(auto, unfolding(crate::specs::Restoring::put_back))]
+#[tactic(auto, using(crate::specs::Restoring::put_whole))]
 pub fn put_back(row: &mut [Station], held: HeldRow)
     ensures { row.new ≡ put_back held row.old }
 {

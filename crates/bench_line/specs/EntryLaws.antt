@@ -1,8 +1,8 @@
 -- Laws.
 -- Laws of what the stations bring to a round: the bytes of one, its sender, and the places past the last holder.
 use Rattle.std.specs.Prelude.{ℕ, zero, suc, ◌+◌, ◌*◌, ◌-◌, ◌≤◌, ◌<◌, min, ◌≡◌, refl, ◌⊎◌, Bool, true, false, cond, eqb, List, [], ◌∷◌, ◌++◌, map, length, take, get_or, replicate, None}
-use Rattle.std.proofs.Common.{ap, ap₂, ◌∙◌, inl, inr, arith, length-append, length-take-le, take_at, eq-eqb, ne_eqb}
-use Rattle.std.proofs.lemmas.List.{get_or_default}
+use Rattle.std.proofs.Common.{ap, ap₂, ◌∙◌, inl, inr, arith, length-append, length-take, length-take-le, take_at, eq-eqb, ne_eqb}
+use Rattle.std.proofs.lemmas.List.{get_or_default, length-replicate}
 use Rattle.laws.specs.Tests.{up_to}
 use Rattle.checkbyte.specs.Register.{check_of, with_check}
 use Rattle.frame.specs.Bits.{bits_of}
@@ -10,7 +10,7 @@ use Rattle.frame.proofs.ByteLaws.{bits_append, bits_length}
 use Rattle.bench.specs.declared.Station.{Station}
 use Rattle.bench.specs.declared.Fared.TheVariants.{Idle}
 use Rattle.bench.specs.Stations.{most_stations, most_stored, stored, empty, blank}
-use Rattle.bench.specs.Course.{Seat, out, on}
+use Rattle.bench.specs.Course.{Seat, out, on, most_bits}
 use Rattle.bench.specs.Round.{absent, pulses_of, holder, entry_of, seat_of}
 use Rattle.bench_line.specs.declared.sender.Sender.{Sender}
 use Rattle.bench_line.specs.Lanes.{seat_at, seats_at, rest_at}
@@ -47,6 +47,27 @@ start_ok s = go (empty (clipped s))
     go true = omega arith
     go false =
         omega (arith, length-append (with_check (stored (clipped s))) (replicate (most_stored - length (stored (clipped s))) 0))
+
+-- They are at most 96, and its bytes are twelve.
+pub start_fits : (s : Station) → (clipped_count s ≤ most_bits) × (length (clipped_frame s) ≡ suc most_stored)
+unfolding count_of frame_of
+start_fits s = (go (empty (clipped s)), omega (arith, few, checked_length m, length-append (with_check m) (replicate (most_stored - length m) 0), length-replicate {A = ℕ} (most_stored - length m) 0))
+  where
+    m : List ℕ
+    m = stored (clipped s)
+
+    few : length m ≤ most_stored
+    few = omega (arith, length-take (min s.len most_stored) s.bytes)
+
+    go : (t : Bool) → cond t 0 (8 * length (with_check m)) ≤ most_bits
+    go true = omega arith
+    go false = omega (arith, few, checked_length m)
+
+-- What the list made from a row has at a place.
+pub at_map : {B : Type 0} (f : Station → B) (row : List Station) (i : ℕ) (d : B) → i < length row → get_or (map f row) i d ≡ f (get_or row i blank)
+at_map f [] i d h = absurd (omega arith)
+at_map f (s ∷ row) zero d h = refl
+at_map f (s ∷ row) (suc i) d h = at_map f row i d (omega arith)
 
 -- As the bits begin it stands for the place that the station takes ..
 pub start_at : (s : Station) (l : Sender) → l.lane ≡ lane_in s → l.frame ≡ clipped_frame s → seat_at false 0 l ≡ place_of s

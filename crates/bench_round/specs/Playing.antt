@@ -135,8 +135,8 @@ pub sum_same : (ws : List ℕ) → sum ws ≡ sum_of ws
 sum_same ws = omega (arith, sum_from 0 ws)
 
 -- A line time fits.
-pub sum_fits : (ws : List ℕ) → sum_of ws ≤ 14438 → sum ws < 2 ^ 32
-sum_fits ws h = omega (arith, sum_same ws)
+pub time_fits : (ws : List ℕ) → sum_of ws ≤ 14438 → sum ws < 2 ^ 32
+time_fits ws h = omega (arith, sum_same ws)
 
 -- A part of a sum is no more than the sum.
 pub sum_part : (ws : List ℕ) (i : ℕ) → sum_of (drop i ws) ≤ sum_of ws
@@ -161,6 +161,10 @@ module _ (ws : List ℕ) (n : ℕ) (h : n ≤ length ws) where
         let one : sum_of (drop (i - 1) (take n ws)) ≡ get_or (take n ws) (i - 1) 0 + sum_of (drop (suc (i - 1)) (take n ws)) =
         ap sum_of (drop-cons (take n ws) (i - 1) 0 (omega (arith, length-take-le n ws h))) in
         omega (arith, e, one, ap (λ (k : ℕ). sum_of (drop k (take n ws))) p, get_or-take n ws (i - 1) 0 (omega arith))
+
+    -- what is summed so far is no more than the whole
+    pub sum_fits : 0 < i → v + get_or ws (i - 1) 0 ≤ sum_of (take n ws)
+    sum_fits lo = omega (arith, sum_more lo, sum_part (take n ws) (i - 1))
 
     -- all words are summed
     pub sum_all : i ≤ 0 → v ≡ sum_of (take n ws)

@@ -9,7 +9,7 @@ use mathlib.Core.List.{List, [], ◌∷◌, ◌++◌, map, append-nil}
 use native.Mathlib.Omega.{arith}
 use Rattle.std.proofs.Math.Numerals.{add-one}
 use Rattle.std.proofs.Math.ListN.{length, drop, length-append, length-drop, drop_of_length-le}
-use Rattle.std.proofs.lemmas.List.{set_at, get_or_at}
+use Rattle.std.proofs.lemmas.List.{set_at, get_or_at, set-get_or}
 
 -- what g gives for the n places from i on
 unfoldable pub from : {A : Type 0} → (ℕ → A) → ℕ → ℕ → List A
@@ -131,3 +131,15 @@ module _ {A : Type 0} (g : ℕ → A) (l : List A) where
   fill_all i n e lo hi =
       let k : i ≡ n = omega arith in
       rw (k, drop_of_length-le l {i = n} (omega arith)) (append-nil (from g 0 n))
+
+-- A filling that stops where the list has what belongs there already.
+pub fill_rest : {A : Type 0} (g : ℕ → A) (l : List A) (d : A) (n m : ℕ) → length l ≡ m → n ≤ m → ((p : ℕ) → n ≤ p → p < m → g p ≡ get_or l p d) → filled g l n ≡ from g 0 m
+fill_rest {A} g l d n m e h own = go (m - n) n (omega arith) (omega arith)
+  where
+    go : (k i : ℕ) → i + k ≡ m → n ≤ i → filled g l i ≡ from g 0 m
+    go zero i q lo = fill_all g l i m e (omega arith) (omega arith)
+    go (suc k) i q lo =
+        sym (set-get_or (filled g l i) i d)
+        ∙ ap (set (filled g l i) i) (fill_ahead g l i d (omega arith) ∙ sym (own i lo (omega arith)))
+        ∙ fill_more g l i d (g i) (omega arith) refl
+        ∙ go k (i + 1) (omega arith) (omega arith)

@@ -1,6 +1,6 @@
 -- What the code's tests say of a float: that the library's test for a finite number is the definition's, and that a finite
 -- difference has a finite minuend. Assumes nothing.
-use mathlib.Core.Path.{◌≡◌, refl}
+use mathlib.Core.Path.{◌≡◌, refl, sym, ◌∙◌}
 use mathlib.Core.Bool.{Bool, true, false, cond, not, ◌&&◌, beq}
 use lib.Ieee.{Float, nan, inf, fin, binary32, neg, add, sub}
 use Rattle.std.specs.Float.{float_is_finite}
@@ -37,3 +37,10 @@ usable g x h = rw (difference, ← same_finite, h)
 pub unusable : (g : Gate) (x : Float) → float_is_finite (corrected g x) ≡ false → Unusable ≡ judged g x
 unfolding judged
 unusable g x h = rw (difference, ← same_finite, h)
+
+-- what a test `!f(..)` says of the value that f is known to answer
+pub said_no : {r a : Bool} → r ≡ a → r ≡ false → a ≡ false
+said_no e h = sym e ∙ h
+
+pub said_yes : {r a : Bool} → r ≡ a → r ≡ true → a ≡ true
+said_yes e h = sym e ∙ h

@@ -3,7 +3,7 @@ use native.Mathlib.Omega.{arith}
 use mathlib.Core.Path.{sym, ◌∙◌}
 use Rattle.std.proofs.Common.{length-take-le}
 use lib.ListN.{length-set}
-use Rattle.bench_round.specs.Playing.{few_bits, words_are, mid_length, time_bound, answer_is, sum_same, sum_fits}
+use Rattle.bench_round.specs.Playing.{few_bits, words_are, mid_length, time_bound, answer_is, sum_same, time_fits}
 use borrow.Author.Rules.{rules}
 use Rattle.bench_round.proofs.play.Goals as goal
 
@@ -62,7 +62,7 @@ pub sum-time-requires : goal.sum-time-requires
 sum-time-requires c =
     let r = c.requires in
     let s = c.contend-contended.ensures in
-    sum_fits _ (time_bound c.args.at (search rules) r.0 c.args.sof r.1 c.args.words.now r.2 _ _ s)
+    time_fits _ (time_bound c.args.at (search rules) r.0 c.args.sof r.1 c.args.words.now r.2 _ _ s)
 
 pub shape_of-words : goal.shape_of-words
 shape_of-words c =
