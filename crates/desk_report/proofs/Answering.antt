@@ -73,9 +73,9 @@ module _ (customer vehicle : List ℕ) where
         prints ws p (answer_at ws p) (answer_is ws p h) r (q.tells_it ∙ ap (λ (m : ℕ). tells (reading ws p m)) (sym n))
         entry bytes (q.lends_it ∙ ap (λ (m : ℕ). lent_after (reading ws p m) entry) (sym n))
 
-    pub answer_space : {at : ℕ} {lent : List ℕ} → Space at (answer_text customer vehicle (answer_at ws p)) lent → Space at (line_in customer vehicle r bytes) lent
+    pub answer_space : {lent : List ℕ} → Space (answer_text customer vehicle (answer_at ws p)) lent → Space (line_in customer vehicle r bytes) lent
     answer_space g = rw read_prints.line g
 
-    pub answer_stepped : {at end : ℕ} {next : Option ℕ} {lent exit : List ℕ} → Laid at (line_in customer vehicle r bytes) lent exit end → next ≡ after_of r
-        → Stepped customer vehicle ws p at lent exit (record { end = end; next = next })
+    pub answer_stepped : {count : ℕ} {next : Option ℕ} {lent exit : List ℕ} → Laid (line_in customer vehicle r bytes) lent exit count → next ≡ after_of r
+        → Stepped customer vehicle ws p lent exit (record { length = count; next = next })
     answer_stepped x e = record { line = rw read_prints.line at x; follows = e ∙ read_prints.on }

@@ -1,54 +1,103 @@
--- Laws of laying text: one text after another, space for what is left, and how each function's stores lay its text.
-use Prim.Native.Nat.{ℕ, zero, suc, ◌+◌, ◌-◌, ◌*◌, ◌/◌, ◌%◌, ◌^◌, ◌≤◌, ◌<◌}
-use mathlib.Core.Path.{◌≡◌, refl, sym, ap, ◌∙◌}
-use mathlib.Core.List.{List, [], ◌∷◌, ◌++◌, append_assoc}
-use native.Mathlib.Numerals.{add-one}
+-- Laws of laying text: one part after another, space for what is left, and how each function's stores lay its text.
+use Prim.Native.Nat.{ℕ, zero, suc, ◌+◌, ◌-◌, ◌/◌, ◌%◌, ◌^◌, ◌≤◌, ◌<◌}
+use mathlib.Core.Path.{◌≡◌, refl, sym, ap, ◌∙◌, subst}
+use mathlib.Core.List.{List, [], ◌∷◌, ◌++◌, append_assoc, append-nil}
 use native.Mathlib.Omega.{arith}
 use native.Mathlib.Nat.{pow-suc, pow-le-pow_right, le_trans}
-use lib.ListN.{length, get_or, take, drop, set, length-set, length-append, drop_of_length-le}
-use lib.Seq.{sets, sets-eq, length-sets, drop-drop, drop-cons}
+use lib.ListN.{length, get_or, take, drop, length-append, drop_of_length-le}
+use lib.Seq.{drop-drop, drop-cons, take_at, drop_at}
 use mathlib.Core.Logic.{◌⊎◌, inl, inr}
 use borrow.Author.Tests.{lt-ltb, le-ltb}
-use borrow.Rule.Slice.PartMut.{put_mid, post_of}
+use borrow.Rule.Slice.PartMut.{put_mid}
+use Rattle.std.proofs.lemmas.List.{take_all, drop_all, length-drop}
 use Rattle.io.specs.Digits.{last_digits, hex_digit_ascii, IsDigitCount}
-use Rattle.laws.specs.Lent.{sets_then}
 use Rattle.laws.specs.Tests.{up_to}
-use Rattle.desk_text.specs.NumeralLaws.{hex_length}
 use Rattle.desk_text.specs.Numerals.{numeral, decimal_in, decimal, hex_digit, hex}
 use Rattle.desk_report.specs.Laying.{Laid, Space}
 
--- ## One after another
+-- ## One part after another
 
-pub then : {a b c : ℕ} {s t o p q : List ℕ} → Laid a s o p b → Laid b t p q c → Laid a (s ++ t) o q c
-then {a} {b} {c} {s} {t} {o} {p} {q} x y =
-    record {
-      ends = omega (arith, x.ends, y.ends, length-append s t);
-      lays = y.lays ∙ ap (λ (l : List ℕ). sets l b t) x.lays ∙ ap (λ (k : ℕ). sets (sets o a s) k t) x.ends ∙ sets_then o a s t;
-    }
+-- what is lent after the first k bytes
+abbrev pub after : ℕ → List ℕ → List ℕ
+after k lent = take (length lent - k) (drop k lent)
 
--- what is lent stays as long as it was
-pub laid_long : {a b : ℕ} {s o p : List ℕ} → Laid a s o p b → length p ≡ length o
-laid_long {a} {b} {s} {o} {p} x = ap length x.lays ∙ length-sets o a s
+module _ {front old mid : List ℕ} {k : ℕ} (x : Laid front old mid k) where
+  begun : drop k mid ≡ drop (length front) old
+  begun = ap (drop k) x.lays ∙ drop_at front (drop (length front) old) k (sym x.counts)
 
--- space for both is space for the first, and then space for the second
-pub space_first : {a : ℕ} (s t : List ℕ) {o : List ℕ} → Space a (s ++ t) o → Space a s o
+  long : length mid ≡ length front + length (drop (length front) old)
+  long = ap length x.lays ∙ length-append front (drop (length front) old)
+
+  -- what is lent after the front is as it was
+  rest : after k mid ≡ drop (length front) old
+  rest = rw begun (take_all (length mid - k) (drop (length front) old) (omega (arith, x.counts, long)))
+
+  laid_after : (s : List ℕ) {part : List ℕ} {j : ℕ} → Laid s (after k mid) part j → Laid (front ++ s) old (put_mid k (length mid - k) mid part) (k + j)
+  laid_after s {part} {j} y =
+      record {
+        counts = omega (arith, x.counts, y.counts, length-append front s);
+        lays =
+            ap (λ (xs : List ℕ). xs ++ (part ++ drop (length mid - k) (drop k mid))) (ap (take k) x.lays ∙ take_at front (drop (length front) old) k (sym x.counts))
+            ∙ ap (λ (xs : List ℕ). front ++ (part ++ xs)) (drop_all (length mid - k) (drop k mid) (rw begun (omega (arith, x.counts, long))))
+            ∙ ap (λ (xs : List ℕ). front ++ xs) (append-nil part ∙ y.lays ∙ ap (λ (xs : List ℕ). s ++ drop (length s) xs) rest ∙ ap (λ (xs : List ℕ). s ++ xs) (drop-drop (length s) (length front) old))
+            ∙ sym (append_assoc front s (drop (length front + length s) old))
+            ∙ ap (λ (i : ℕ). (front ++ s) ++ drop i old) (sym (length-append front s));
+      }
+
+-- A part of the whole text stands at the front, k bytes, and what is left of the text comes after it.
+pub record Left (left whole old lent : List ℕ) (k : ℕ) : Type 0 where
+  pub done : List ℕ
+  pub both : done ++ left ≡ whole
+  pub space : Space whole old
+  pub laid : Laid done old lent k
+
+-- nothing is laid
+pub none_yet : {whole old : List ℕ} → Space whole old → Left whole whole old old 0
+none_yet h = record { done = []; both = refl; space = h; laid = record { counts = refl; lays = refl } }
+
+-- the first part
+pub first : {s t old lent : List ℕ} {k : ℕ} → Space (s ++ t) old → Laid s old lent k → Left t (s ++ t) old lent k
+first {s} h x = record { done = s; both = refl; space = h; laid = x }
+
+pub space_first : (s t : List ℕ) {old : List ℕ} → Space (s ++ t) old → Space s old
 space_first s t h = record { fits = omega (arith, h.fits, length-append s t) }
 
-pub space_next : {a b : ℕ} (s t : List ℕ) {o p : List ℕ} → Laid a s o p b → Space a (s ++ t) o → Space b t p
-space_next s t x h = record { fits = omega (arith, h.fits, x.ends, laid_long x, length-append s t) }
+module _ {whole old lent : List ℕ} {k : ℕ} where
+  -- all is laid
+  pub none_left : Left [] whole old lent k → Laid whole old lent k
+  none_left l = subst (λ (w : List ℕ). Laid w old lent k) (sym (append-nil l.done) ∙ l.both) l.laid
+
+  pub space_last : {s : List ℕ} → Left s whole old lent k → Space s (after k lent)
+  space_last {s} l =
+      rw (rest l.laid)
+      (record { fits = omega (arith, l.space.fits, ap length l.both, length-append l.done s, length-drop (length l.done) old) })
+
+  pub space_next : (s t : List ℕ) → Left (s ++ t) whole old lent k → Space s (after k lent)
+  space_next s t l = space_first s t (space_last l)
+
+  -- the last part, and one before it
+  pub last : {s part : List ℕ} {j : ℕ} → Left s whole old lent k → Laid s (after k lent) part j → Laid whole old (put_mid k (length lent - k) lent part) (k + j)
+  last {s} {part} {j} l x = subst (λ (w : List ℕ). Laid w old (put_mid k (length lent - k) lent part) (k + j)) l.both (laid_after l.laid s x)
+
+  pub next : {s t part : List ℕ} {j : ℕ} → Left (s ++ t) whole old lent k → Laid s (after k lent) part j → Left t whole old (put_mid k (length lent - k) lent part) (k + j)
+  next {s} {t} l x = record { done = l.done ++ s; both = append_assoc l.done s t ∙ l.both; space = l.space; laid = laid_after l.laid s x }
+
+-- two texts
+pub then : {s t old lent part : List ℕ} {k j : ℕ} → Space (s ++ t) old → Laid s old lent k → Laid t (after k lent) part j
+    → Laid (s ++ t) old (put_mid k (length lent - k) lent part) (k + j)
+then h x y = last (first h x) y
+
+pub space_second : {s t old lent : List ℕ} {k : ℕ} → Space (s ++ t) old → Laid s old lent k → Space t (after k lent)
+space_second h x = space_last (first h x)
+
+-- what the code that lays several texts is proved by, but for the way out
+pub ruleset laying_laws = (space_first, first, space_next, next, space_last)
 
 -- ## Copied bytes
 
--- what copying s over `&mut out[at..at + s.len()]` leaves
-pub laid_copied : (s out ys : List ℕ) (at : ℕ) → at + length s ≤ length out → ys ≡ s
-    → Laid at s out (put_mid at (at + length s - at) out ys) (at + length s)
-laid_copied s out ys at h e = record { ends = refl; lays = whole ∙ sym (sets-eq s out at h ∙ append_assoc (take at out) s (drop (at + length s) out)) }
-  where
-    rest : post_of at (at + length s - at) out ≡ drop (at + length s) out
-    rest = drop-drop (at + length s - at) at out ∙ ap (λ (k : ℕ). drop k out) (omega arith)
-
-    whole : take at out ++ (ys ++ post_of at (at + length s - at) out) ≡ take at out ++ (s ++ drop (at + length s) out)
-    whole = rw (e, rest) refl
+-- what copying s over `&mut out[..s.len()]` leaves
+pub laid_copied : (s out ys : List ℕ) → ys ≡ s → Laid s out (ys ++ drop (length s) out) (length s)
+laid_copied s out ys e = record { counts = refl; lays = ap (λ (xs : List ℕ). xs ++ drop (length s) out) e }
 
 -- ## Decimal
 
@@ -90,51 +139,29 @@ decimal_is n r f h = go r f (few_digits n r f h)
 
 -- the digits that were made are the numeral, and there is space for them where there is space for it
 module _ {n r : ℕ} {t : List ℕ} (f : IsDigitCount 10 1 n r) (h : n < 18446744073709551616) (e : t ≡ last_digits 10 r n) where
-  pub number_space : (at : ℕ) (o : List ℕ) → Space at (decimal n) o → Space at t o
-  number_space at o k = rw (e ∙ decimal_is n r f h) k
+  pub number_space : (o : List ℕ) → Space (decimal n) o → Space t o
+  number_space o k = rw (e ∙ decimal_is n r f h) k
 
-  pub number_laid : {at end : ℕ} {o p : List ℕ} → Laid at t o p end → Laid at (decimal n) o p end
+  pub number_laid : {count : ℕ} {o p : List ℕ} → Laid t o p count → Laid (decimal n) o p count
   number_laid x = rw (e ∙ decimal_is n r f h) at x
 
 -- ## Hex
 
--- i bytes are printed, and those from i on are left
-pub record Hexing (s entry : List ℕ) (at : ℕ) (lent : List ℕ) (k i : ℕ) : Type 0 where
-  pub inside : i ≤ length s
-  pub place : k ≡ at + 2 * i
-  pub space : at + 2 * length s ≤ length entry
-  pub long : length lent ≡ length entry
-  pub left : sets lent k (hex (drop i s)) ≡ sets entry at (hex s)
-
-pub hexing_start : (s entry : List ℕ) (at : ℕ) → Space at (hex s) entry → Hexing s entry at entry at 0
-hexing_start s entry at r = record { inside = omega arith; place = omega arith; space = omega (arith, r.fits, hex_length s); long = refl; left = refl }
-
-module _ {s entry lent : List ℕ} {at k i : ℕ} (h : Hexing s entry at lent k i) where
-  pub hexing_on : {x y : ℕ} → i < length s → x ≡ hex_digit (get_or s i 0 / 16) → y ≡ hex_digit (get_or s i 0 % 16)
-      → Hexing s entry at (set (set lent k x) (k + 1) y) (k + 2) (i + 1)
+-- the two digits of the byte at i, and those of the bytes after it
+module _ (s : List ℕ) {old lent : List ℕ} {k : ℕ} (i : ℕ) (h : Left (hex (drop i s)) (hex s) old lent k) (l : i < length s) {x y : ℕ}
+    (p : x ≡ hex_digit (get_or s i 0 / 16)) (q : y ≡ hex_digit (get_or s i 0 % 16)) where
+  digits : Left ((x ∷ y ∷ []) ++ hex (drop (suc i) s)) (hex s) old lent k
   unfolding hex
-  hexing_on {x} {y} l p q =
-      let a : k + 1 ≡ suc k = omega arith in
-      let b : k + 2 ≡ suc (suc k) = omega arith in
-      let left : sets lent k (hex_digit (get_or s i 0 / 16) ∷ hex_digit (get_or s i 0 % 16) ∷ hex (drop (suc i) s)) ≡ sets entry at (hex s) = rw (drop-cons s i 0 l) at h.left in
-      record {
-        inside = omega arith;
-        place = omega (arith, h.place);
-        space = h.space;
-        long = length-set (set lent k x) (k + 1) y ∙ length-set lent k x ∙ h.long;
-        left = rw (a, b, p, q, add-one) left;
-      }
+  digits = rw (p, q) (rw (drop-cons s i 0 l) at h)
 
-  pub hexing_end : length s ≤ i → Laid at (hex s) entry lent k
-  unfolding hex
-  hexing_end l =
-      record {
-        ends = omega (arith, h.place, h.inside, hex_length s);
-        lays = rw (drop_of_length-le s l) at h.left;
-      }
+  pub hex_space : Space (x ∷ y ∷ []) (after k lent)
+  hex_space = space_next _ _ digits
 
-  pub hexing_space : i < length s → k + 1 < length lent
-  hexing_space l = omega (arith, h.place, h.space, h.long)
+  pub hex_next : {part : List ℕ} {j : ℕ} → Laid (x ∷ y ∷ []) (after k lent) part j
+      → Left (hex (drop (i + 1) s)) (hex s) old (put_mid k (length lent - k) lent part) (k + j)
+  hex_next z = let e : i + 1 ≡ suc i = omega arith in rw e (next digits z)
 
-  pub hexing_second : (x : ℕ) → i < length s → k + 1 < length (set lent k x)
-  hexing_second x l = rw (length-set lent k x) (hexing_space l)
+-- no byte is left
+pub hex_end : (s : List ℕ) {old lent : List ℕ} {k : ℕ} (i : ℕ) → Left (hex (drop i s)) (hex s) old lent k → length s ≤ i → Laid (hex s) old lent k
+unfolding hex
+hex_end s i h l = none_left (rw (drop_of_length-le s l) at h)

@@ -7,8 +7,8 @@ use native.Mathlib.Omega.{arith}
 use lib.Dec.{eqb, ltb}
 use lib.ListN.{length, take, drop, length-append}
 use lib.Seq.{take_at}
+use borrow.Rule.Slice.PartMut.{put_mid}
 use borrow.Author.Tests.{le-ltb, ltb-false, eqb-true, eqb-false, ne_eqb}
-use Rattle.laws.specs.Lent.{sets_first}
 use Rattle.laws.specs.Tests.{neither}
 use Rattle.frame.specs.Faults.{most_bytes}
 use Rattle.frame.proofs.RecordingOn.{answers_in}
@@ -27,7 +27,7 @@ use Rattle.desk_text.specs.LabelPlaces.{Stand, labels_stand}
 use Rattle.desk_text.specs.Whole.{desk_good, desk_bad, desk_size}
 use Rattle.desk_report.specs.Laying.{Laid, Space}
 use Rattle.desk_report.specs.Reporting.{text_from, customer_in, vehicle_in, Within}
-use Rattle.desk_report.proofs.Laying.{then, space_first, space_next}
+use Rattle.desk_report.proofs.Laying.{after, then, space_first, space_second}
 
 -- ## A report
 
@@ -41,22 +41,22 @@ report_text customer vehicle ws =
 part : (a n : ℕ) (s : List ℕ) → take (a + n - a) (drop a s) ≡ take n (drop a s)
 part a n s = let e : a + n - a ≡ n = omega arith in rw e
 
-module _ {o : List ℕ} (s : List ℕ) (l : Labels) (ws : List ℕ) (h : Space 0 (report (customer_in s l) (vehicle_in s l) ws) o) where
+module _ {o : List ℕ} (s : List ℕ) (l : Labels) (ws : List ℕ) (h : Space (report (customer_in s l) (vehicle_in s l) ws) o) where
   abbrev answers_part : List ℕ
   answers_part = text_from (take (4 + l.customer - 4) (drop 4 s)) (take (4 + l.customer + 1 + l.vehicle - (4 + l.customer + 1)) (drop (4 + l.customer + 1) s)) ws 0
 
   whole : report (customer_in s l) (vehicle_in s l) ws ≡ header ++ answers_part
   whole = report_text (customer_in s l) (vehicle_in s l) ws ∙ rw (part 4 l.customer s, part (4 + l.customer + 1) l.vehicle s)
 
-  pub report_1 : Space 0 header o
-  report_1 = space_first header answers_part (rw whole at h)
+  pub header_space : Space header o
+  header_space = space_first header answers_part (rw whole at h)
 
-  module _ {k : ℕ} {p : List ℕ} (x : Laid 0 header o p k) where
-    pub report_2 : Space k answers_part p
-    report_2 = space_next header answers_part x (rw whole at h)
+  module _ {k : ℕ} {p : List ℕ} (x : Laid header o p k) where
+    pub lines_space : Space answers_part (after k p)
+    lines_space = space_second (rw whole at h) x
 
-    pub report_laid : {j : ℕ} {q : List ℕ} → Laid k answers_part p q j → Laid 0 (report (customer_in s l) (vehicle_in s l) ws) o q j
-    report_laid y = rw whole (then x y)
+    pub report_laid : {j : ℕ} {q : List ℕ} → Laid answers_part (after k p) q j → Laid (report (customer_in s l) (vehicle_in s l) ws) o (put_mid k (length p - k) p q) (k + j)
+    report_laid y = rw whole (then (rw whole at h) x y)
 
 -- ## What judging tells
 
@@ -123,7 +123,7 @@ module _ (s words : List ℕ) (enough : most_widths ≤ length words) {left : Li
   -- ## The call
 
   -- the text is laid, and judging has laid the widths
-  module _ {entry exit : List ℕ} {k : ℕ} (h : most_text ≤ length entry) (x : Laid 0 (desk_of s) entry exit k) (w : left ≡ laid_on (laid_words (number_by (lines s)) s) words) where
+  module _ {entry exit : List ℕ} {k : ℕ} (h : most_text ≤ length entry) (x : Laid (desk_of s) entry exit k) (w : left ≡ laid_on (laid_words (number_by (lines s)) s) words) where
     lent_enough : (lent_short (length words) (length entry)).says ≡ false
     lent_enough = rw (le-ltb (length words) most_widths enough, le-ltb (length entry) most_text h)
 
@@ -132,7 +132,7 @@ module _ (s words : List ℕ) (enough : most_widths ≤ length words) {left : Li
     promised t = record {
       tells_it = rw lent_enough t;
       words_it = rw lent_enough w;
-      lends_it = rw (lent_enough, ← text_laid (eqb (first_bad (lines s)) 0)) (x.lays ∙ sets_first entry (desk_of s) (omega (arith, desk_size s)));
+      lends_it = rw (lent_enough, ← text_laid (eqb (first_bad (lines s)) 0)) x.lays;
     }
       where
         text_laid : (b : Bool) → desk_of s ≡ laid_text (number_if b) s
@@ -140,7 +140,7 @@ module _ (s words : List ℕ) (enough : most_widths ≤ length words) {left : Li
         text_laid false = refl
 
     size : k ≡ length (desk_of s)
-    size = omega (arith, x.ends)
+    size = x.counts
 
   module _ {j : Result GoodInput InputRefusal} {l : Labels} {n : ℕ} (e : j ≡ good l n) (judged : JudgePromise s words left j) where
     q : JudgePromise s words left (good l n)
@@ -161,11 +161,11 @@ module _ (s words : List ℕ) (enough : most_widths ≤ length words) {left : Li
     text : report (customer_in s l) (vehicle_in s l) (take n left) ≡ desk_of s
     text = rw (f.customer, f.vehicle, stand.customer_stands, stand.vehicle_stands, f.widths) (sym (desk_good s f.none_bad))
 
-    pub report_space : {lent : List ℕ} → most_text ≤ length lent → Space 0 (report (customer_in s l) (vehicle_in s l) (take n left)) lent
+    pub report_space : {lent : List ℕ} → most_text ≤ length lent → Space (report (customer_in s l) (vehicle_in s l) (take n left)) lent
     report_space h = record { fits = rw text (omega (arith, desk_size s)) }
 
     pub desk_reports : {entry exit : List ℕ} {k : ℕ} → most_text ≤ length entry
-        → Laid 0 (report (customer_in s l) (vehicle_in s l) (take n left)) entry exit k → DeskPromise s words left entry exit (Ok (Report k))
+        → Laid (report (customer_in s l) (vehicle_in s l) (take n left)) entry exit k → DeskPromise s words left entry exit (Ok (Report k))
     desk_reports h x =
         let y = rw text at x in
         promised h y (words_by q) (rw (f.none_bad, size h y (words_by q)))
@@ -177,10 +177,10 @@ module _ (s words : List ℕ) (enough : most_widths ≤ length words) {left : Li
     refused_text : refusal n ≡ desk_of s
     refused_text = rw (flawed b).0 (sym (desk_bad s (flawed b).1))
 
-    pub refusal_space : {lent : List ℕ} → most_text ≤ length lent → Space 0 (refusal n) lent
+    pub refusal_space : {lent : List ℕ} → most_text ≤ length lent → Space (refusal n) lent
     refusal_space h = record { fits = omega (arith, ap length refused_text, desk_size s) }
 
-    pub desk_refuses : {entry exit : List ℕ} {k : ℕ} → most_text ≤ length entry → Laid 0 (refusal n) entry exit k → DeskPromise s words left entry exit (Ok (Refused n k))
+    pub desk_refuses : {entry exit : List ℕ} {k : ℕ} → most_text ≤ length entry → Laid (refusal n) entry exit k → DeskPromise s words left entry exit (Ok (Refused n k))
     desk_refuses h x =
         let y = rw refused_text at x in
         promised h y (words_by b) (rw (ne_eqb (first_bad (lines s)) 0 (flawed b).1, (flawed b).0, size h y (words_by b)))

@@ -1,7 +1,6 @@
 -- Machinery.
 -- What the steps of printing lay down, told by the definitions of the rooms below.
 use Rattle.std.specs.Prelude.{ℕ, ◌+◌, ◌≤◌, ◌≡◌, List, [], ◌∷◌, ◌++◌, length, take, drop, Result, Ok, Err}
-use Rattle.std.proofs.lemmas.List.Edits.{sets}
 use Rattle.frame.specs.declared.Lengths.{Lengths}
 use Rattle.frame.specs.declared.Response.{Response}
 use Rattle.frame.specs.declared.Fault.{Fault}
@@ -13,14 +12,14 @@ use Rattle.desk_text.specs.Grammar.{newline, tab}
 use Rattle.desk_text.specs.Numerals.{decimal, hex}
 use Rattle.desk_text.specs.Report.{w_frame, w_quiet, w_unfinished, w_fault, w_none, line_of, marked}
 
--- A text is laid from a place on, and `end` is the place after it.
-pub record Laid (at : ℕ) (text entry exit : List ℕ) (end : ℕ) : Type 0 where
-  pub ends : end ≡ at + length text
-  pub lays : exit ≡ sets entry at text
+-- A text stands first, what stood after it is unchanged, and its length is told.
+pub record Laid (text entry exit : List ℕ) (count : ℕ) : Type 0 where
+  pub counts : count ≡ length text
+  pub lays : exit ≡ text ++ drop (length text) entry
 
--- there is space for a text from a place on
-pub record Space (at : ℕ) (text lent : List ℕ) : Type 0 where
-  pub fits : at + length text ≤ length lent
+-- there is space for a text
+pub record Space (text lent : List ℕ) : Type 0 where
+  pub fits : length text ≤ length lent
 
 -- a field and the tab after it
 abbrev pub tabbed : List ℕ → List ℕ

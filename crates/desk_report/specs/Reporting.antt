@@ -26,9 +26,9 @@ onwards (refused number) = None
 unfoldable pub text_from : List ℕ → List ℕ → List ℕ → ℕ → List ℕ
 text_from customer vehicle ws p = answers_text customer vehicle (answers_in (length ws + 1 - p) ws most_bytes p)
 
--- one line is laid, and its end and what follows are answered
-pub record Stepped (customer vehicle ws : List ℕ) (p at : ℕ) (entry exit : List ℕ) (r : Step) : Type 0 where
-  pub line : Laid at (answer_text customer vehicle (answer_at ws p)) entry exit r.end
+-- one line is laid, and its length and what follows are answered
+pub record Stepped (customer vehicle ws : List ℕ) (p : ℕ) (entry exit : List ℕ) (r : Step) : Type 0 where
+  pub line : Laid (answer_text customer vehicle (answer_at ws p)) entry exit r.length
   pub follows : r.next ≡ onwards (answer_at ws p)
 
 -- the customer's label, by the labels' lengths in an input

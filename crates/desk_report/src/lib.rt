@@ -22,28 +22,29 @@ const CUSTOMER: usize = 4;
 // The report of a recording whose labels stand in the input: the header, and a line for each answer.
 fn put_report(input: &[u8], labels: Labels, widths: &[u32], lent: &mut [u8]) -> usize
     requires within { Within input.now labels }
-    requires space { Space 0 (report_of (customer_in input.now labels) (vehicle_in input.now labels) widths.now) lent.old }
-    ensures { Laid 0 (report_of (customer_in input.now labels) (vehicle_in input.now labels) widths.now) lent.old lent.new result }
+    requires space { Space (report_of (customer_in input.now labels) (vehicle_in input.now labels) widths.now) lent.old }
+    ensures { Laid (report_of (customer_in input.now labels) (vehicle_in input.now labels) widths.now) lent.old lent.new result }
 {
     let c = CUSTOMER + labels.customer;
     let v = c + 1 + labels.vehicle;
-    let k = put(b"customer\tvehicle\tat\tkind\tmain\tresponse\n", lent, 0);
+    let k = put(b"customer\tvehicle\tat\tkind\tmain\tresponse\n", lent);
     let recording = Recording {
         customer: &input[CUSTOMER..c],
         vehicle: &input[c + 1..v],
         widths,
     };
-    put_lines(&recording, lent, k)
+    k + put_lines(&recording, &mut lent[k..])
 }
 
 // The refusal of an input at a line.
+#[tactic(auto, using(crate::proofs::Laying::laying_laws))]
 fn put_refusal(line: usize, lent: &mut [u8]) -> usize
-    requires { Space 0 (refusal line) lent.old }
-    ensures { Laid 0 (refusal line) lent.old lent.new result }
+    requires { Space (refusal line) lent.old }
+    ensures { Laid (refusal line) lent.old lent.new result }
 {
-    let k1 = put(b"refused\t", lent, 0);
-    let k2 = put_number(line, lent, k1);
-    put(b"\n", lent, k2)
+    let k1 = put(b"refused\t", lent);
+    let k2 = k1 + put_number(line, &mut lent[k1..]);
+    k2 + put(b"\n", &mut lent[k2..])
 }
 
 // The whole text for an input: it stands first in the lent bytes, and a good input's widths stand first in the lent words.

@@ -9,10 +9,10 @@ use frame::{MOST_BYTES, ReadRefusal, Reading};
 use units::Place;
 
 // The kind and the parts of an answer; a frame's bytes stand first in s.
-fn put_end(answer: Result<Reading, ReadRefusal>, s: &[u8], lent: &mut [u8], at: usize) -> usize
+fn put_end(answer: Result<Reading, ReadRefusal>, s: &[u8], lent: &mut [u8]) -> usize
     requires holds { Holds answer s.now }
-    requires space { Space at (end_of answer s.now) lent.old }
-    ensures { Laid at (end_of answer s.now) lent.old lent.new result }
+    requires space { Space (end_of answer s.now) lent.old }
+    ensures { Laid (end_of answer s.now) lent.old lent.new result }
 {
     match answer {
         Ok(
@@ -21,11 +21,11 @@ fn put_end(answer: Result<Reading, ReadRefusal>, s: &[u8], lent: &mut [u8], at: 
                 response,
                 ..
             },
-        ) => put_frame(lengths, response, s, lent, at),
-        Ok(Reading::Quiet { .. }) => put(b"quiet\t-\t-\n", lent, at),
-        Ok(Reading::Unfinished { .. }) => put(b"unfinished\t-\t-\n", lent, at),
-        Ok(Reading::Faulty { fault, .. }) => put_fault(fault, lent, at),
-        Err(_) => put(b"-\t-\t-\n", lent, at),
+        ) => put_frame(lengths, response, s, lent),
+        Ok(Reading::Quiet { .. }) => put(b"quiet\t-\t-\n", lent),
+        Ok(Reading::Unfinished { .. }) => put(b"unfinished\t-\t-\n", lent),
+        Ok(Reading::Faulty { fault, .. }) => put_fault(fault, lent),
+        Err(_) => put(b"-\t-\t-\n", lent),
     }
 }
 
@@ -55,49 +55,48 @@ fn put_line(
     answer: Result<Reading, ReadRefusal>,
     s: &[u8],
     lent: &mut [u8],
-    at: usize,
 ) -> usize
     requires holds { Holds answer s.now }
-    requires space { Space at (line_in recording.now.customer.now recording.now.vehicle.now answer s.now) lent.old }
-    ensures { Laid at (line_in recording.now.customer.now recording.now.vehicle.now answer s.now) lent.old lent.new result }
+    requires space { Space (line_in recording.now.customer.now recording.now.vehicle.now answer s.now) lent.old }
+    ensures { Laid (line_in recording.now.customer.now recording.now.vehicle.now answer s.now) lent.old lent.new result }
 {
-    let k1 = put_field(recording.customer, lent, at);
-    let k2 = put_field(recording.vehicle, lent, k1);
-    let k3 = put_place(place(answer), lent, k2);
-    put_end(answer, s, lent, k3)
+    let k1 = put_field(recording.customer, lent);
+    let k2 = k1 + put_field(recording.vehicle, &mut lent[k1..]);
+    let k3 = k2 + put_place(place(answer), &mut lent[k2..]);
+    k3 + put_end(answer, s, &mut lent[k3..])
 }
 
-// Where the line of an answer ends, and where reading goes on.
+// How long the line of an answer is, and where reading goes on.
 #[derive(Clone, Copy)]
 pub(crate) struct Step {
-    pub end: usize,
+    pub length: usize,
     pub next: Option<usize>,
 }
 
 // The line of the answer at a position.
-fn put_answer(recording: &Recording, from: usize, lent: &mut [u8], at: usize) -> Step
+fn put_answer(recording: &Recording, from: usize, lent: &mut [u8]) -> Step
     requires from_in_bounds { from ≤ length recording.now.widths.now }
-    requires space { Space at (answer_text recording.now.customer.now recording.now.vehicle.now (answer_at recording.now.widths.now from)) lent.old }
-    ensures { Stepped recording.now.customer.now recording.now.vehicle.now recording.now.widths.now from at lent.old lent.new result }
+    requires space { Space (answer_text recording.now.customer.now recording.now.vehicle.now (answer_at recording.now.widths.now from)) lent.old }
+    ensures { Stepped recording.now.customer.now recording.now.vehicle.now recording.now.widths.now from lent.old lent.new result }
 {
     let mut s = [0u8; MOST_BYTES];
     let answer = frame_read::read(recording.widths, Place(from), &mut s);
-    let end = put_line(recording, answer, &s, lent, at);
+    let length = put_line(recording, answer, &s, lent);
     let next = desk_answer::after(answer);
-    Step { end, next }
+    Step { length, next }
 }
 
 // A line for each answer from the recording's start on, until quiet or unfinished.
-#[tactic(auto, using(crate::proofs::Driving::lines_laws))]
-pub(crate) fn put_lines(recording: &Recording, lent: &mut [u8], at: usize) -> usize
-    requires { Space at (text_from recording.now.customer.now recording.now.vehicle.now recording.now.widths.now 0) lent.old }
-    ensures { Laid at (text_from recording.now.customer.now recording.now.vehicle.now recording.now.widths.now 0) lent.old lent.new result }
+#[tactic(auto, using(crate::proofs::Driving::left_start))]
+pub(crate) fn put_lines(recording: &Recording, lent: &mut [u8]) -> usize
+    requires { Space (text_from recording.now.customer.now recording.now.vehicle.now recording.now.widths.now 0) lent.old }
+    ensures { Laid (text_from recording.now.customer.now recording.now.vehicle.now recording.now.widths.now 0) lent.old lent.new result }
 {
-    let mut k = at;
+    let mut k = 0;
     let mut next = Some(0);
     while let Some(from) = next {
-        let step = put_answer(recording, from, lent, k);
-        k = step.end;
+        let step = put_answer(recording, from, &mut lent[k..]);
+        k += step.length;
         next = step.next;
     }
     k

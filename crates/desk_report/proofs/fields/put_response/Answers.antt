@@ -1,19 +1,25 @@
 -- `desk_report::put_response` meets its contract: the mark, and after it the bytes and the newline, or nothing.
-use Rattle.desk_report.proofs.Parts.{response_1, without_laid, response_2, response_3, response_laid}
-use borrow.Author.Rules.{rules}
+use Rattle.desk_report.proofs.Laying.{none_left, space_next, space_last, next, last}
+use Rattle.desk_report.proofs.Parts.{mark_space, without_left, with_left}
 use Rattle.desk_report.proofs.fields.put_response.Goals as goal
 
-pub put-k1-requires : goal.put-k1-requires
-put-k1-requires c = search (rules, response_1)
+pub put-marked-requires : goal.put-marked-requires
+put-marked-requires c = mark_space c.args.kind c.args.s.now c.mark.ensures c.requires
 
 pub returns-then-without : goal.returns-then-without
-returns-then-without c = search (rules, without_laid)
+returns-then-without c =
+    none_left (without_left c.args.kind c.args.s.now c.mark.ensures c.requires c.put-marked.ensures c.without.ensures c.if-without.true)
 
-pub put_hex-k2-requires : goal.put_hex-k2-requires
-put_hex-k2-requires c = search (rules, response_2)
+pub put_hex-requires : goal.put_hex-requires
+put_hex-requires c =
+    space_next _ _ (with_left c.args.kind c.args.s.now c.mark.ensures c.requires c.put-marked.ensures c.without.ensures c.if-without.false)
 
 pub put-requires : goal.put-requires
-put-requires c = search (rules, response_3)
+put-requires c =
+    let left = with_left c.args.kind c.args.s.now c.mark.ensures c.requires c.put-marked.ensures c.without.ensures c.if-without.false in
+    space_last (next left c.put_hex.ensures)
 
 pub returns : goal.returns
-returns c = search (rules, response_laid)
+returns c =
+    let left = with_left c.args.kind c.args.s.now c.mark.ensures c.requires c.put-marked.ensures c.without.ensures c.if-without.false in
+    last (next left c.put_hex.ensures) c.put.ensures

@@ -3,8 +3,8 @@ use Rattle.desk_report.proofs.Answering.{read_prints, answer_space, answer_stepp
 use mathlib.Core.Path.{refl}
 use Rattle.desk_report.proofs.lines.put_answer.Goals as goal
 
-pub put_line-end-requires : goal.put_line-end-requires
-put_line-end-requires c =
+pub put_line-length-requires : goal.put_line-length-requires
+put_line-length-requires c =
     let a = c.args in
     let h = c.requires in
     let q = c.read-answer.ensures in
@@ -16,4 +16,4 @@ put_line-end-requires c =
 pub returns : goal.returns
 returns c =
     let a = c.args in
-    answer_stepped a.recording.now.customer.now a.recording.now.vehicle.now a.recording.now.widths.now a.from c.requires.from_in_bounds refl c.read-answer.ensures c.put_line-end.ensures c.after-next.ensures
+    answer_stepped a.recording.now.customer.now a.recording.now.vehicle.now a.recording.now.widths.now a.from c.requires.from_in_bounds refl c.read-answer.ensures c.put_line-length.ensures c.after-next.ensures
