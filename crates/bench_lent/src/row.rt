@@ -29,7 +29,8 @@ pub fn put_back(row: &mut [Station], held: HeldRow)
     row[..n].copy_from_slice(&held.at[..n]);
 }
 
-// Loads a message into the station at a place, from 0 on. A refusal changes nothing.
+// Loads a message into the station at a place, from 0 on. A refusal changes nothing. Each of these is three lines, which one call
+// over a closure would not make plainer.
 pub fn load(row: &mut [Station], place: usize, message: &[u8]) -> Result<(), CallRefusal>
     ensures { LoadPromise place message.now row.old row.new result }
 {

@@ -67,6 +67,7 @@ pub(crate) fn senders(row: &[Station]) -> [Sender; MOST_STATIONS]
         frame: [0; MOST_SENT],
     };
     let mut senders = [none; MOST_STATIONS];
+    // by the place, since a proof knows nothing of what a zipped `iter_mut` has written
     for (i, station) in row.iter().enumerate() {
         senders[i] = sender_of(station);
     }

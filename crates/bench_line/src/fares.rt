@@ -20,7 +20,8 @@ fn verdict(sender: &Sender) -> Verdict
     Verdict { fared }
 }
 
-// The verdicts of a round that is over. The places past the senders are idle.
+// The verdicts of a round that is over. The places past the senders are idle. By the place, since a proof knows nothing of what a
+// zipped `iter_mut` has written.
 #[tactic(auto, using(crate::specs::LoopLaws::fill_one, crate::specs::LoopLaws::fill_all))]
 pub(crate) fn verdicts(senders: &[Sender]) -> [Verdict; MOST_STATIONS]
     requires { length senders.now ≤ most_stations }

@@ -1,4 +1,4 @@
-// All lanes of a round at one bit: what they ask of the line together, and what each of them hears.
+// All senders of a round at one bit: what they ask of the line together, and what each of them hears.
 ghost use Rattle.std.specs.Prelude.{◌+◌, ◌<◌, ◌≡◌, map, not};
 ghost use Rattle.bench.specs.Course.{asked, heard, most_bits, on_line};
 ghost use Rattle.bench_line.specs.Lanes.{asked_by, seats_at};

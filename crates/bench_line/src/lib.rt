@@ -36,7 +36,7 @@ pub fn contend(at: [Station; MOST_STATIONS], words: &mut [u32]) -> Contended
     contend_on(at, words)
 }
 
-// Nobody sends a bit.
+// Nobody sends a bit. An answer and no refusal: this open call answers for any words, and a round refuses few of them before.
 #[tactic(auto, unfolding(crate::specs::Contending::nobody_sent))]
 fn nobody() -> Contended
     ensures { result ≡ nobody_sent }

@@ -22,6 +22,7 @@ impl Sender {
     pub fn asks(&self, active: bool, j: usize) -> Ask
         ensures { result ≡ ask_at active j self.now }
     {
+        // past the last byte no bit is sent, and what stands for it does not matter
         let byte = self.frame.get(j / BITS_OF_BYTE).copied().unwrap_or(0);
         bench_lane::asks(&self.lane, byte, active, j)
     }

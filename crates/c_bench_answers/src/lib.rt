@@ -15,7 +15,7 @@ pub struct CallAnswer {
     pub number: u32,
 }
 
-// How a place fared, by its number, and the bit at which it lost; 0 unless it lost.
+// How a place fared, by its number, and the bit at which it lost; 0, as C has it, unless it lost.
 #[repr(C)]
 #[derive(Clone, Copy)]
 pub struct Verdict {
@@ -23,7 +23,7 @@ pub struct Verdict {
     pub bit: usize,
 }
 
-// What a round answers. Where it was turned away all places are idle, and both counts are 0.
+// What a round answers. Where it was turned away all places are idle, and both counts are 0, since C has it so.
 #[repr(C)]
 #[derive(Clone, Copy)]
 pub struct RoundAnswer {
@@ -33,7 +33,7 @@ pub struct RoundAnswer {
     pub verdicts: [Verdict; MOST_STATIONS],
 }
 
-// Document 01's numbers for the refusals of a call on a row.
+// Document 01's numbers for the refusals of a call on a row, which C is told.
 const ROW_SIZE: u32 = 38;
 
 const UNSOUND: u32 = 39;

@@ -1,4 +1,4 @@
-// The calls on a lent row of stations. The row is handed on as it is lent: the held row works on it in place.
+// The calls on a lent row of stations. The row is handed on as it is lent: the room below gathers it and puts it back.
 ghost use Rattle.std.specs.Prelude.{◌≡◌};
 ghost use Rattle.bench.specs.Calls as Calls;
 ghost use Rattle.bench.specs.Calls.{number_of, after, lent_after};

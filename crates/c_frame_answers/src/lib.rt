@@ -41,7 +41,7 @@ pub struct Timed {
     pub good: bool,
 }
 
-// How many words were written.
+// How many words were written: 0 beside a refusal, since C has it so.
 #[repr(C)]
 #[derive(Clone, Copy)]
 pub struct Counted {
@@ -49,7 +49,7 @@ pub struct Counted {
     pub count: usize,
 }
 
-// What reading answers. A value that the answer does not have is 0.
+// What reading answers. A value that the answer does not have is 0, since C has it so: include/j1850.h.
 #[repr(C)]
 #[derive(Clone, Copy)]
 pub struct Read {
@@ -61,7 +61,8 @@ pub struct Read {
     pub response: usize,
 }
 
-// What the desk answers: how many bytes of text were laid, and where the input is bad its first bad line.
+// What the desk answers: how many bytes of text were laid, and where the input is bad its first bad line; 0, as C has it, where
+// there is none.
 #[repr(C)]
 #[derive(Clone, Copy)]
 pub struct Desk {
@@ -70,7 +71,7 @@ pub struct Desk {
     pub length: usize,
 }
 
-// Document 01's numbers for the refusals of a trace.
+// Document 01's numbers for the refusals of a trace, which C is told.
 const MANY_SAMPLES: u32 = 33;
 
 const BAD_GATE: u32 = 34;

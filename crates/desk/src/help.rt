@@ -1,8 +1,7 @@
 // How to use the desk, as `desk --help` prints it.
-use crate::failure::fail;
 
 // The whole page.
-const PAGE: &str = "desk: what a recording of a J1850 VPW line holds
+pub(crate) const PAGE: &str = "desk: what a recording of a J1850 VPW line holds
 
   desk           reads standard input
   desk FILE      reads a file; - is standard input
@@ -34,10 +33,3 @@ c: for bytes and a check byte of their own. Kinds:
 Any other input gives one line: refused, and the number of its first bad line.
 Why that line is bad stands on standard error.
 ";
-
-// Prints the page. Where it cannot be written that is told, with what the system said.
-pub(crate) fn print(rt: &(impl Print + Eprint + Alloc)) {
-    if let Err(error) = rt.write_all(PAGE.as_bytes()) {
-        fail(rt, "standard output", error);
-    }
-}

@@ -51,7 +51,8 @@ fn page() -> [u8; MOST_TEXT]
     [0u8; MOST_TEXT]
 }
 
-// Reads until the buffer is full or the input ends, and answers how many bytes were read.
+// Reads until the buffer is full or the input ends, and answers how many bytes were read. By hand: what the library has for it
+// says too little of an input that ends first.
 fn fill(reader: &mut impl Read, buf: &mut [u8]) -> io::Result<usize>
     ensures { IfOk result (λ n. IsPrefixLen n buf.new) }
 {
@@ -132,7 +133,7 @@ fn serve_named(rt: &(impl Files + Input + Print + Eprint + Alloc), name: &[u8]) 
     if desk_field::same(name, b"-") {
         serve_input(rt);
     } else if desk_field::same(name, b"--help") {
-        help::print(rt);
+        put_out(rt, help::PAGE.as_bytes());
     } else if let Ok(name) = str::from_utf8(name) {
         serve_file(rt, name);
     } else {

@@ -58,7 +58,7 @@ fn write_intervals(gate: Gate, samples: &[f32], words: &mut [u32]) -> usize
     requires samples_nonzero { (0 < length samples.now) × (length samples.now ≤ most_samples) × (length samples.now < length words.old) }
     ensures { (result ≡ length (intervals_of gate samples.now)) × (words.new ≡ intervals_of gate samples.now ++ drop result words.old) }
 {
-    let mut next = Place(0);
+    let mut next = Place(0); // counted by hand, since only some samples write a word
     let mut width = Micros(0);
     let mut active = false;
     for sample in samples {
