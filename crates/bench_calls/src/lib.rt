@@ -23,7 +23,7 @@ fn row_call(held: HeldRow, place: usize) -> Result<(), CallRefusal>
     if bench_row::bad_size(held.count) {
         return Err(CallRefusal::RowSize);
     }
-    if !bench_row::survey_all(held.at).sound {
+    if !bench_row::survey_all(&held.at).sound {
         return Err(CallRefusal::UnsoundStation);
     }
     if held.count <= place {

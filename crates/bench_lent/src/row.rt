@@ -9,7 +9,9 @@ use bench::{CallRefusal, RoundAnswer, RoundRefusal, Station};
 use bench_row::HeldRow;
 use symbol::Clock;
 
-// The held row of a lent one: its first 32 stations, and how many it has.
+// The held row of a lent one: its first 32 stations, and how many it has. Inlined, so that each call has its held row where it is
+// made, and no second one on the stack.
+#[inline(always)]
 #[tactic(auto, using(crate::specs::Restoring::gathers))]
 pub fn gathered(row: &[Station]) -> HeldRow
     ensures { result ≡ held_of row.now }

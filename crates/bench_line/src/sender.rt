@@ -18,10 +18,14 @@ impl Sender {
     ghost use Rattle.bench_line.specs.Lanes.{ask_at};
 
     // What it asks of the line at bit j, from 0 on.
-    #[tactic(auto, unfolding(crate::specs::Lanes::ask_at))]
+    #[tactic(auto, unfolding(crate::specs::Lanes::ask_at, bench_lane::specs::Lane::ask_of))]
     pub fn asks(&self, active: bool, j: usize) -> Ask
         ensures { result ≡ ask_at active j self.now }
     {
+        // most places are out of most rounds soon, or were never in them: of those no byte is read
+        if self.lane.lost.is_some() || self.lane.count == 0 {
+            return Ask::Out;
+        }
         // past the last byte no bit is sent, and what stands for it does not matter
         let byte = self.frame.get(j / BITS_OF_BYTE).copied().unwrap_or(0);
         bench_lane::asks(&self.lane, byte, active, j)

@@ -28,7 +28,7 @@ pub struct Played {
 pub fn round_on(held: HeldRow, words: &mut [u32]) -> Result<Played, RoundRefusal>
     ensures { PlayedBy held words.old words.new result }
 {
-    let survey = bench_row::survey_all(held.at);
+    let survey = bench_row::survey_all(&held.at);
     may_play(held.count, survey, words.len())?;
     let answer = play(held.at, survey.sof, words);
     let next = after_round(held, answer.verdicts);

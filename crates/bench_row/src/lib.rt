@@ -20,7 +20,8 @@ pub struct HeldRow {
     pub count: usize,
 }
 
-// 32 blank stations.
+// 32 blank stations. Not inlined, since each call would lay them out anew, field by field.
+#[inline(never)]
 pub fn blanks() -> [Station; MOST_STATIONS]
     ensures { result ≡ replicate most_stations blank }
 {

@@ -1,6 +1,6 @@
 -- Definitions.
 -- Why a line of the desk's input is bad: the first of these reasons that holds.
-use Rattle.std.specs.Prelude.{ℕ, ◌+◌, ◌-◌, Bool, cond, List, [], eqb, leb, ltb, length, get_or}
+use Rattle.std.specs.Prelude.{ℕ, ◌+◌, ◌-◌, Bool, cond, List, [], codes, eqb, leb, ltb, length, get_or}
 use Rattle.desk_text.specs.Input.{Line, unshut, lines, most_widths}
 use Rattle.desk_reason.specs.declared.Reason.{Reason}
 use Rattle.desk_reason.specs.declared.Reason.TheVariants.{Missing, Unclosed, CarriageReturn, NotOwn, TooMany, NotWidth}
@@ -32,3 +32,12 @@ first_of s = line_at 1 (lines s)
 -- Why line n of an input is bad.
 abbrev pub reason_at : ℕ → List Line → Reason
 reason_at n ls = reason_of n (line_at n ls)
+
+-- A reason in words.
+abbrev pub words_of : Reason → List ℕ
+words_of Missing = codes "the input has no such line"
+words_of Unclosed = codes "no newline closes it"
+words_of CarriageReturn = codes "a carriage return stands before its newline"
+words_of NotOwn = codes "it is not own, customer and vehicle, parted by tabs"
+words_of TooMany = codes "16384 lines with a width stand before it"
+words_of NotWidth = codes "it is not iv and a width, parted by a tab"

@@ -1,9 +1,9 @@
 // Why the first bad line of an input is bad. The desk's text says only which line it is; people are told this besides.
 #![tactic(auto)]
 
-ghost use Rattle.std.specs.Prelude.{◌≡◌};
+ghost use Rattle.std.specs.Prelude.{◌≡◌, Some};
 ghost use Rattle.desk_text.specs.Input.{lines};
-ghost use Rattle.desk_reason.specs.Reasons.{reason_at, reason_of, first_of, ends_in_return, open_reason, closed_reason};
+ghost use Rattle.desk_reason.specs.Reasons.{reason_at, reason_of, first_of, ends_in_return, open_reason, closed_reason, words_of};
 
 use desk_text::{MOST_WIDTHS, find};
 use std::fmt::{self, Display, Formatter, Write};
@@ -32,6 +32,8 @@ pub enum Reason {
 
 // The reason in words.
 impl Display for Reason {
+    ghost output = { λ r. Some (words_of r) };
+
     fn fmt<W: Write>(&self, f: &mut Formatter<W>) -> fmt::Result {
         f.write_str(match self {
             Reason::Missing => "the input has no such line",

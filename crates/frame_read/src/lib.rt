@@ -24,7 +24,9 @@ fn opening(intervals: &[u32], from: usize) -> Option<usize>
     requires { from ≤ length intervals.now }
     ensures { result ≡ found_by (opening_of (single intervals.now) from) }
 {
-    for i in (from + from % 2..intervals.len()).step_by(2) {
+    let first = from + from % 2;
+    for pair in 0..intervals.len().saturating_sub(first).div_ceil(2) {
+        let i = first + 2 * pair;
         if symbol::is_end(PASSIVE, Micros(intervals[i])) {
             return Some(i);
         }

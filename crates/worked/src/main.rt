@@ -12,8 +12,8 @@ use std::io;
 fn main(rt: HostRuntime) -> io::Result<()> {
     checks::vectors(&rt)?;
     checks::single_bytes(&rt)?;
-    symbols::windows(&rt, false)?;
-    symbols::windows(&rt, true)?;
+    symbols::windows::<false>(&rt)?;
+    symbols::windows::<true>(&rt)?;
     symbols::clocks(&rt)?;
     symbols::widths_sent(&rt, false)?;
     symbols::widths_sent(&rt, true)

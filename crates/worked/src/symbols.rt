@@ -45,19 +45,25 @@ fn level(active: bool) -> &'static str {
     if active { "active" } else { "passive" }
 }
 
+// One line: from this width on an interval is this symbol.
+fn begins(rt: &impl Print, active: bool, width: u32, here: Symbol) -> io::Result<()> {
+    println!(rt; "{} from {width}: {}", level(active), name(here))
+}
+
 // Every width up to the last tried, with a line for each at which the symbol changes; then the widest that there is.
-pub(crate) fn windows(rt: &impl Print, active: bool) -> io::Result<()> {
-    let level = level(active);
-    let mut before = None;
-    for width in 0..=LAST_TRIED {
-        let here = symbol::class(active, Micros(width));
-        if before != Some(here) {
-            println!(rt; "{level} from {width}: {}", name(here))?;
+pub(crate) fn windows<const ACTIVE: bool>(rt: &impl Print) -> io::Result<()> {
+    let mut before = symbol::class(ACTIVE, Micros(0));
+    begins(rt, ACTIVE, 0, before)?;
+    for width in 1..=LAST_TRIED {
+        let here = symbol::class(ACTIVE, Micros(width));
+        if here != before {
+            begins(rt, ACTIVE, width, here)?;
+            before = here;
         }
-        before = Some(here);
     }
+    let level = level(ACTIVE);
     let widest = u32::MAX;
-    let name = name(symbol::class(active, Micros(widest)));
+    let name = name(symbol::class(ACTIVE, Micros(widest)));
     println!(rt; "{level} {widest}: {name}")
 }
 
