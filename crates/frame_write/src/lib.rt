@@ -49,6 +49,7 @@ fn put_frame(clock: Clock, main: &[u8], kind: Response, response: &[u8], lent: &
 }
 
 // The response, from the EOD on, or nothing where none is asked for.
+#[tactic(auto, unfolding(checkbyte::specs::Register::check_of))]
 fn put_response(clock: Clock, kind: Response, response: &[u8], lent: &mut [u32]) -> usize
     requires { Fits (response_widths clock kind response.now) lent.old }
     ensures { Lays (response_widths clock kind response.now) lent.old lent.new result }
