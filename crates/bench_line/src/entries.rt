@@ -51,7 +51,9 @@ fn sender_of(station: &Station) -> Sender
     }
 }
 
-// The places of the stations of a row. Those past its end have nothing to send.
+// The places of the stations of a row. Those past its end have nothing to send. Not inlined, so that they are made where the caller
+// has them, and there is no second array of them on the stack.
+#[inline(never)]
 #[tactic(auto, using(crate::specs::LoopLaws::map_one))]
 pub(crate) fn senders(row: &[Station]) -> [Sender; MOST_STATIONS]
     requires { length row.now ≤ most_stations }

@@ -73,6 +73,16 @@ fn put_out(rt: &(impl Print + Eprint + Alloc), text: &[u8]) {
     }
 }
 
+// Writes the page of help, until a part of it cannot be written, which is told.
+fn put_page(rt: &(impl Print + Eprint + Alloc)) {
+    for part in help::PAGE {
+        if let Err(error) = rt.write_all(part.as_bytes()) {
+            fail(rt, "standard output", error);
+            return;
+        }
+    }
+}
+
 // What an input comes to: how many bytes its text has, and its first bad line, if one is bad.
 #[derive(Drop)]
 struct Text {
@@ -133,7 +143,7 @@ fn serve_named(rt: &(impl Files + Input + Print + Eprint + Alloc), name: &[u8]) 
     if desk_field::same(name, b"-") {
         serve_input(rt);
     } else if desk_field::same(name, b"--help") {
-        put_out(rt, help::PAGE.as_bytes());
+        put_page(rt);
     } else if let Ok(name) = str::from_utf8(name) {
         serve_file(rt, name);
     } else {
